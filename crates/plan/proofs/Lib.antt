@@ -1,0 +1,5 @@
+pub mod Questions
+pub mod Items
+pub mod Lines
+pub mod Written
+pub mod Exactly

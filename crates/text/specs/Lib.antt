@@ -1,0 +1,4 @@
+pub mod Results
+pub mod Numbers
+pub mod Lines
+pub mod Forms
