@@ -25,6 +25,15 @@ front-past n xs k d h = sym (getD-past (take n xs) k d (omega (arith, length-tak
 pub partitions-long : (p : Plan) → length (layout p .partitions) ≡ p .«partition_count»
 partitions-long p = length-take-le (p .«partition_count») (p .partitions) (omega arith)
 
+pub accelerators-long : (p : Plan) → length (layout p .accelerators) ≡ p .«accelerator_count»
+accelerators-long p = length-take-le (p .«accelerator_count») (p .accelerators) (omega arith)
+
+pub partitions-few : (p : Plan) → length (layout p .partitions) ≤ 8
+partitions-few p = omega (arith, partitions-long p)
+
+pub accelerators-few : (p : Plan) → length (layout p .accelerators) ≤ 32
+accelerators-few p = omega (arith, accelerators-long p)
+
 module _ (p : Plan) (k : ℕ) (there : k < p .«partition_count») where
   -- the slots of one more partition
   pub slots-more : first-slot (layout p) (k + 1) ≡ first-slot (layout p) k + getD (p .partitions) k none .slots

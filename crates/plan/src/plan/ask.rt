@@ -66,7 +66,7 @@ impl Plan {
     /// Partition `k`, or one of zeros where the plan has none of that number.
     pub fn partition(&self, k: usize) -> Partition
         ensures is { λ r. ⌜ r ≡ getD (layout (now (self .entry)) .partitions) k none ⌝ }
-        ensures few { λ r. ⌜ r .slots ≤ 8 ⌝ }
+        ensures few { λ r. ⌜ (r .slots ≤ 8) × (r .size ≤ 1000000) ⌝ }
     {
         if k < self.partition_count {
             self.partitions[k]
@@ -81,7 +81,8 @@ impl Plan {
 
     /// Accelerator `a`, or one of zeros where the plan has none of that number.
     pub fn accelerator(&self, a: usize) -> Accelerator
-        ensures { λ r. ⌜ r ≡ getD (layout (now (self .entry)) .accelerators) a idle ⌝ }
+        ensures is { λ r. ⌜ r ≡ getD (layout (now (self .entry)) .accelerators) a idle ⌝ }
+        ensures few { λ r. ⌜ r .run ≤ 1000000 ⌝ }
     {
         if a < self.accelerator_count {
             self.accelerators[a]
@@ -93,6 +94,20 @@ impl Plan {
                 run: 0,
             }
         }
+    }
+
+    /// All partitions, in order.
+    pub fn partitions(&self) -> &[Partition]
+        ensures { λ r. ⌜ now r ≡ layout (now (self .entry)) .partitions ⌝ }
+    {
+        &self.partitions[0..self.partition_count]
+    }
+
+    /// All accelerators, in order.
+    pub fn accelerators(&self) -> &[Accelerator]
+        ensures { λ r. ⌜ now r ≡ layout (now (self .entry)) .accelerators ⌝ }
+    {
+        &self.accelerators[0..self.accelerator_count]
     }
 
     /// How many slots the partitions have together.

@@ -8,9 +8,10 @@ pub returns-then-k-self : need.returns-then-k-self
 returns-then-k-self c =
     let p = c .args .self .now in
     let is = front-in (p .«partition_count») (p .partitions) (c .args .k) none (omega arith) in
-    record { is = is; few = subst Partition-kept (sym is) (p .parted (c .args .k) (omega (arith, partitions-long p))) .1 .1 }
+    let kept = subst Partition-kept (sym is) (p .parted (c .args .k) (omega (arith, partitions-long p))) in
+    record { is = is; few = (kept .1 .1, kept .2 .1) }
 
 pub returns-else-k-self : need.returns-else-k-self
 returns-else-k-self c =
     let p = c .args .self .now in
-    record { is = front-past (p .«partition_count») (p .partitions) (c .args .k) none (omega arith); few = omega arith }
+    record { is = front-past (p .«partition_count») (p .partitions) (c .args .k) none (omega arith); few = (omega arith, omega arith) }

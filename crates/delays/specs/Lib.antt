@@ -1,0 +1,4 @@
+pub mod Greatest
+pub mod Delays
+pub mod Places
+pub mod Rows
