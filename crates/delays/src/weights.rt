@@ -51,16 +51,14 @@ pub(crate) fn others(plan: &Plan, rate: u32, partition: u32, slots: u32, owner: 
     let mut sum = 0;
     for task in 0..plan.tasks() {
         if task != owner {
-            sum += greatest(
-                plan.accelerators(),
-                &Weighing {
-                    plan,
-                    rate,
-                    partition,
-                    slots,
-                    task,
-                },
-            );
+            let weighing = Weighing {
+                plan,
+                rate,
+                partition,
+                slots,
+                task,
+            };
+            sum += greatest(plan.accelerators(), &weighing);
         }
     }
     sum

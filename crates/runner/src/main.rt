@@ -1,33 +1,19 @@
-//! The runner: reads `plan.txt` from its folder and prints what is wrong with it, or what it has.
+//! The runner: reads `plan.txt` from its folder and a script from standard input, and prints the transcript.
 
-use plan::plan::Plan;
-use plan::plan::read::read;
+use script::transcript::transcript;
 use std::fs;
 use std::io;
+use std::io::Read;
+use std::io::Write;
 
 fn main(rt: LibcRuntime) -> io::Result<()> {
     // a plan that cannot be read counts as empty
-    let text = match fs::read(&rt, "plan.txt") {
+    let plan_text = match fs::read(&rt, "plan.txt") {
         Ok(text) => text,
         Err(_) => Vec::new(rt.alloc()),
     };
-    let mut plan = Plan::empty();
-    match read(&text, &mut plan) {
-        Ok(()) => {
-            let partitions = plan.partition_count();
-            let accelerators = plan.accelerator_count();
-            let slots = plan.slot_count();
-            let tasks = plan.tasks();
-            println!(
-                rt,
-                "{partitions} partitions {slots} slots {accelerators} accelerators {tasks} tasks"
-            )
-        }
-        Err(fault) => {
-            let number = fault.number();
-            let line = fault.line();
-            let field = fault.field();
-            println!(rt, "plan {number} {line} {field}")
-        }
-    }
+    let mut script = Vec::new(rt.alloc());
+    rt.stdin().read_to_end(&mut script)?;
+    let out = transcript(rt.alloc(), &plan_text, &script)?;
+    rt.stdout().write_all(&out)
 }
