@@ -9,7 +9,8 @@ use Rattle.std.specs.declared.option.Option.{Option}
 use Rattle.std.specs.declared.option.Option.the-variants.{Some, None}
 use Rattle.model.specs.Moves.{joined}
 use Rattle.engine.specs.declared.lines.Line.{Line}
-use Rattle.engine.specs.Views.{standing, first-of}
+use Rattle.model.specs.States.{first-of}
+use Rattle.engine.specs.Views.{standing}
 
 pub first-is : (xs : List ℕ) (n : ℕ) → length xs ≡ 8 → (n ≡ 0 → ⊥) → Some (getD xs 0 0) ≡ first-of (take n xs)
 first-is [] n l ne = absurd (omega arith)

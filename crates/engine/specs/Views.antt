@@ -1,6 +1,6 @@
 -- What the engine's structs stand for.
 use mathlib.Core.Path.{_≡_}
-use mathlib.Core.List.{List, [], _∷_, map}
+use mathlib.Core.List.{List, map}
 use Prim.Native.Nat.{ℕ, _<_, _≤_}
 use lib.ListN.{length, take}
 use Rattle.std.specs.declared.option.Option.{Option}
@@ -16,10 +16,6 @@ standing l = take (l .len) (l .slots)
 
 abbrev pub rows-of : Lines → List (List ℕ)
 rows-of ls = take (ls .count) (map standing (ls .rows))
-
-abbrev pub first-of : List ℕ → Option ℕ
-first-of [] = None
-first-of (x ∷ xs) = Some x
 
 -- a place of the table
 abbrev pub Within : Option ℕ → Type 0

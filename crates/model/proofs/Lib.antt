@@ -36,5 +36,3 @@ pub mod Feeds
 pub mod Laws
 -- loops that settle and expire
 pub mod Loops
--- worked examples
-pub mod Examples

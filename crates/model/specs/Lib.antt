@@ -12,5 +12,3 @@ pub mod Grants
 pub mod Feeds
 pub mod Stops
 pub mod Laws
--- worked examples
-pub mod Examples

@@ -11,7 +11,7 @@ pub enum Kind {
 }
 
 /// The kind of a line, by its first letter.
-pub fn kind_of(letter: char) -> Option<Kind>
+pub(crate) fn kind_of(letter: char) -> Option<Kind>
     ensures { λ r. ⌜ r ≡ letter-kind letter ⌝ }
 {
     match letter {

@@ -30,7 +30,8 @@ const EQUAL_SLOTS: &[u8] =
 const FOUR_SLOTS: &[u8] =
     b"c 100 2 6 4\np 40 2 20\np 40 2 15\na 0 0 20 4\na 0 1 20 3\na 1 1 15 2\na 1 2 10 5\na 0 3 7 1\na 1 3 15 6\n";
 
-/// An older request keeps the port from a younger one, and the other way round on a port that cannot be interrupted.
+/// The figure of four accelerators in FRED's paper: an older request takes the port from a younger one, but not on a port
+/// that cannot be interrupted.
 const CONTEST: [Call; 34] = [
     Call::Request {
         task: 0,
@@ -233,6 +234,7 @@ fn call_of(x: u64, tickets: &[u32; 4]) -> Call {
         2 => Call::Done {
             slot: (x / 32 % 5) as u32,
         },
+        4 => Call::StageOf { task },
         3 => Call::Collect {
             task,
             ticket: tickets[task as usize],
@@ -241,49 +243,27 @@ fn call_of(x: u64, tickets: &[u32; 4]) -> Call {
     }
 }
 
-/// What came of a long run: how many tickets were given and collected, how many requests a tick ended, and how many calls
-/// were refused.
-#[derive(Clone, Copy, Drop)]
+/// What came of a long run.
 struct Tally {
     given: u32,
     ended: u32,
     collected: u32,
+    waited: u32,
     refused: u32,
 }
 
-fn tallied(tally: Tally, answer: Answer) -> Tally {
-    let Tally {
-        given,
-        ended,
-        collected,
-        refused,
-    } = tally;
-    match answer {
-        Answer::Ticket(_) => Tally {
-            given: given.saturating_add(1),
-            ended,
-            collected,
-            refused,
-        },
-        Answer::Ticked { ended: more, .. } => Tally {
-            given,
-            ended: ended.saturating_add(more),
-            collected,
-            refused,
-        },
-        Answer::Collected(_) => Tally {
-            given,
-            ended,
-            collected: collected.saturating_add(1),
-            refused,
-        },
-        Answer::Refused(_) => Tally {
-            given,
-            ended,
-            collected,
-            refused: refused.saturating_add(1),
-        },
-        Answer::Completed(_) | Answer::Stands(_) => tally,
+impl Tally {
+    fn count(&mut self, answer: Answer) {
+        match answer {
+            Answer::Ticket(_) => self.given = self.given.saturating_add(1),
+            Answer::Ticked { ended, .. } => self.ended = self.ended.saturating_add(ended),
+            Answer::Collected(report) => {
+                self.collected = self.collected.saturating_add(1);
+                self.waited = self.waited.saturating_add(report.waited);
+            }
+            Answer::Refused(_) => self.refused = self.refused.saturating_add(1),
+            Answer::Completed(_) | Answer::Stands(_) => {}
+        }
     }
 }
 
@@ -299,6 +279,7 @@ fn run_long<P: Port + Drop>(rt: &LibcRuntime, port: P, turns: u32) -> Result<(),
         given: 0,
         ended: 0,
         collected: 0,
+        waited: 0,
         refused: 0,
     };
     let mut x = 1;
@@ -309,17 +290,22 @@ fn run_long<P: Port + Drop>(rt: &LibcRuntime, port: P, turns: u32) -> Result<(),
         if let (Call::Request { task, .. }, Answer::Ticket(ticket)) = (call, answer) {
             tickets[task as usize % 4] = ticket;
         }
-        tally = tallied(tally, answer);
+        tally.count(answer);
     }
     let Tally {
         given,
         ended,
         collected,
+        waited,
         refused,
     } = tally;
     println!(
         rt,
-        "{turns} calls over two layers: {given} given, {ended} ended by ticks, {collected} collected, {refused} refused"
+        "{turns} calls over two layers: {given} tickets given, {collected} collected after {waited} ticks of waiting"
+    )?;
+    println!(
+        rt,
+        "{ended} requests ended in ticks, {refused} calls refused"
     )?;
     Ok(())
 }
@@ -329,10 +315,10 @@ fn run_over_layers(rt: &LibcRuntime) -> Result<(), AnyError> {
     let mut map = SlotMap::identity();
     let _ = map.exchange(0, 3);
     let _ = map.exchange(1, 30);
-    if let Ok(port) = Interruptible::new(6) {
+    if let Ok(port) = Interruptible::new(2) {
         run_long(rt, Renumbered::new(Renumbered::new(port, map), map), 20_000)?;
     }
-    if let Ok(port) = Uninterruptible::new(6) {
+    if let Ok(port) = Uninterruptible::new(2) {
         run_long(rt, Renumbered::new(Renumbered::new(port, map), map), 20_000)?;
     }
     Ok(())

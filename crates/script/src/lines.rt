@@ -27,7 +27,7 @@ fn kind_of(letter: char) -> Option<Kind>
 }
 
 /// The place after the line that begins at `at`: after its byte 10, or the end of the text where it has none.
-pub fn line_end(text: &[u8], at: usize) -> usize
+pub(crate) fn line_end(text: &[u8], at: usize) -> usize
     requires { ⌜ at < length (now text) ⌝ }
     ensures { λ r. ⌜ Ends-line (now (text .entry)) at r ⌝ }
 {
@@ -39,7 +39,7 @@ pub fn line_end(text: &[u8], at: usize) -> usize
 }
 
 /// Line one of a script: which port, and its rate.
-pub fn read_port(bytes: &[u8]) -> Result<(Kind, u32), Malformed>
+pub(crate) fn read_port(bytes: &[u8]) -> Result<(Kind, u32), Malformed>
     ensures { λ r. ⌜ r ≡ first-line (now (bytes .entry)) ⌝ }
 {
     let (letter, [rate], _) = line::<1>(bytes, 0, Digits::Ten)?;

@@ -1,5 +1,5 @@
 use mathlib.Core.Path.{_∙_}
-use Rattle.engine.specs.Views.{first-of}
+use Rattle.model.specs.States.{first-of}
 use Rattle.engine.proofs.LineLaws.{row-is, no-row}
 use Rattle.engine.proofs.lines.Lines.first.Needs as need
 

@@ -2,7 +2,7 @@ use mathlib.Core.Path.{_≡_, sym}
 use native.Mathlib.Omega.{arith}
 use Prim.Native.Nat.{_<_}
 use Rattle.engine.specs.State.{state}
-use Rattle.engine.proofs.ExpireLaws.{step-few, step-count, step-rest, step-less, end-count, end-few, end-rest}
+use Rattle.model.proofs.Loops.{step-few, step-count, step-rest, expire-less, end-count, end-few, end-rest}
 use Rattle.engine.proofs.scheduler.Scheduler.expire.Needs as need
 
 pub add-ended : need.add-ended
@@ -12,7 +12,7 @@ add-ended g c =
 
 pub loop-i-less : need.loop-i-less
 loop-i-less g c =
-    step-less (state (g .P·Port) (c .loop-i .self)) (state (g .P·Port) (c .finish .last .self)) (c .in-Some .i) (sym (c .in-Some .ensures tt .is)) (c .finish .ensures)
+    expire-less (state (g .P·Port) (c .loop-i .self)) (state (g .P·Port) (c .finish .last .self)) (c .in-Some .i) (sym (c .in-Some .ensures tt .is)) (c .finish .ensures)
 
 pub loop-i-again : need.loop-i-again
 loop-i-again g c =
