@@ -44,7 +44,7 @@ unfoldable pub row-lines : Layout → ℕ → Bool → ℕ → List ℕ
 row-lines l rate interrupts zero = []
 row-lines l rate interrupts (suc n) = row-lines l rate interrupts n ++ row-line n (row-of l rate interrupts n)
 
--- until there is a scheduler, each further line is refused
+-- the runner makes no calls yet: each further line is refused
 unfoldable pub later-lines : List (List ℕ) → List ℕ
 later-lines [] = []
 later-lines (l ∷ ls) = no-line 60 ++ later-lines ls
