@@ -1,6 +1,8 @@
 //! Claims for firmware: an accepted request hands over a claim, which only an accepted collection gives back.
 //! The check refuses firmware that lets a claim go uncollected or collects one twice (`Drop` and `collect_claim`).
 
+#![tactic(auto)]
+
 ghost use Rattle.std.specs.Prelude.{◌≡◌, IfOk};
 ghost use Rattle.engine.specs.Answers.{told};
 ghost use Rattle.engine.specs.State.{state};

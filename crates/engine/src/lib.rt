@@ -2,6 +2,8 @@
 //! Each public call equals its definition in `model`, and every run of calls keeps the promises on waits, tickets, slots and
 //! images (`scheduler/calls.rt`).
 
+#![tactic(auto)]
+
 mod lines;
 mod records;
 pub mod scheduler;

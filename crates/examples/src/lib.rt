@@ -1,5 +1,7 @@
 //! Examples worked out by hand, held to the definitions that the contracts cite: one table, one theorem.
 
+#![tactic(auto)]
+
 ghost use Rattle.std.specs.List.{AllByRecursion as All};
 ghost use Rattle.examples.specs.Examples.{Holds, examples};
 

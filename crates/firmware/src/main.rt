@@ -1,5 +1,7 @@
 //! The delivered sample: a cabinet's readings on both kinds of port, over the renumbering layer. It goes by claims only.
 
+#![tactic(auto)]
+
 mod readings;
 mod rounds;
 

@@ -1,5 +1,7 @@
 //! Plan texts, good and damaged, and what the reader tells of each: number, layer, line and field.
 
+#![tactic(auto)]
+
 use plan::faults::{Fault, Layer};
 use plan::plan::Plan;
 use plan::plan::read::read;

@@ -1,5 +1,7 @@
 //! Configuration ports: what a port means, two kinds of port, and a layer that renumbers slots.
 
+#![tactic(auto)]
+
 pub mod answers;
 pub mod delivered;
 pub mod interruptible;

@@ -1,5 +1,7 @@
 //! The runner: reads `plan.txt` from its folder and a script from standard input, and prints the transcript.
 
+#![tactic(auto)]
+
 use script::transcript::transcript;
 use std::io::{Read, Write};
 use std::{fs, io};

@@ -1,5 +1,7 @@
 //! Runs of the scheduler, and what each call answers.
 
+#![tactic(auto)]
+
 use anyhow::anyhow;
 use engine::scheduler::Scheduler;
 use model::calls::{Answer, Call};

@@ -1,5 +1,7 @@
 //! The argument of the waits: each function's contract is a theorem.
 
+#![tactic(auto)]
+
 ghost use Rattle.waits.specs.Law.{WaitsHold};
 ghost use Rattle.waits.specs.Sharp.{WaitsSharp};
 

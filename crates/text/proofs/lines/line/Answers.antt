@@ -12,7 +12,7 @@ loop-i-init g c =
     let t = c.args.text.now in
     let k = most c.args.digits in
     let same : g.row.N - 0 ≡ g.row.N = omega arith in
-    (omega arith, omega (arith, c.in-ok-kind.ensures.inside), length-replicate g.row.N 0, onto_nil (fields_at t k g.row.N (c.args.at + 1)) ∙ ap (λ j. onto [] (fields_at t k j (c.args.at + 1))) (sym same))
+    (omega arith, omega (arith, c.in_ok-kind.ensures.inside), length-replicate g.row.N 0, onto_nil (fields_at t k g.row.N (c.args.at + 1)) ∙ ap (λ j. onto [] (fields_at t k j (c.args.at + 1))) (sym same))
 
 pub returns-in-err-value : goal.returns-in-err-value
 returns-in-err-value g c =
@@ -28,11 +28,11 @@ pub loop-i-preserved : goal.loop-i-preserved
 loop-i-preserved g c =
     let t = c.args.text.now in
     let k = most c.args.digits in
-    let more = fields_more t k (g.row.N - c.loop-i.i) (g.row.N - (c.loop-i.i + 1)) c.loop-i.next c.in-ok-value.value c.in-ok-value.after (omega arith) (sym c.in-ok-value.ensures.is) in (
-      omega (arith, c.in-ok-value.ensures.inside),
-      c.in-ok-value.ensures.inside.1,
+    let more = fields_more t k (g.row.N - c.loop-i.i) (g.row.N - (c.loop-i.i + 1)) c.loop-i.next c.in_ok-value.value c.in_ok-value.after (omega arith) (sym c.in_ok-value.ensures.is) in (
+      omega (arith, c.in_ok-value.ensures.inside),
+      c.in_ok-value.ensures.inside.1,
       simp length-set c.loop-i.invariant.2,
-      c.loop-i.invariant.3 ∙ ap (onto (take c.loop-i.i c.loop-i.numbers)) more ∙ onto_more c.loop-i.numbers c.loop-i.i c.in-ok-value.value _ (omega arith),
+      c.loop-i.invariant.3 ∙ ap (onto (take c.loop-i.i c.loop-i.numbers)) more ∙ onto_more c.loop-i.numbers c.loop-i.i c.in_ok-value.value _ (omega arith),
     )
 
 pub returns : goal.returns
@@ -43,8 +43,8 @@ returns g c =
     let none = fields_none t k (g.row.N - c.loop-i.i) c.loop-i.next (omega arith) in
     let whole = take_all c.loop-i.i xs (omega arith) in
     let all = c.loop-i.invariant.3 ∙ ap (onto (take c.loop-i.i xs)) none ∙ onto_none (take c.loop-i.i xs) c.loop-i.next ∙ ap (λ l. Ok (l, c.loop-i.next)) whole in
-    let last = sym c.in-ok-letter.ensures.is ∙ ap Ok c.if-branch-ne10.false in
+    let last = sym c.in_ok-letter.ensures.is ∙ ap Ok c.if-branch-ne10.false in
     record {
-      is = sym (line_done t k g.row.N c.args.at _ xs c.loop-i.next (sym c.in-ok-kind.ensures.is) all last);
-      inside = (omega arith, omega (arith, c.in-ok-letter.ensures.inside));
+      is = sym (line_done t k g.row.N c.args.at _ xs c.loop-i.next (sym c.in_ok-kind.ensures.is) all last);
+      inside = (omega arith, omega (arith, c.in_ok-letter.ensures.inside));
     }
