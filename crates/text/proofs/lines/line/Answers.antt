@@ -14,14 +14,14 @@ loop-i-init g c =
     let same : g.row.N - 0 ≡ g.row.N = omega arith in
     (omega arith, omega (arith, c.in_ok-kind.ensures.inside), length-replicate g.row.N 0, onto_nil (fields_at t k g.row.N (c.args.at + 1)) ∙ ap (λ j. onto [] (fields_at t k j (c.args.at + 1))) (sym same))
 
-pub returns-in-err-value : goal.returns-in-err-value
-returns-in-err-value g c =
+pub returns-in_err-value : goal.returns-in_err-value
+returns-in_err-value g c =
     let t = c.args.text.now in
     let k = most c.args.digits in
-    let p = err_from_is_err_and c.from-residual-in-err-value.result c.from-residual-in-err-value.ensures.1 in
+    let p = err_from_is_err_and c.from_residual-in_err-value.result c.from_residual-in_err-value.ensures.1 in
     let j = g.row.N - c.loop-i.i in
-    let flaw = fields_flaw t k j (j - 1) c.loop-i.next c.in-err-value.field-0.0 (omega arith) (sym c.in-err-value.ensures.is) in
-    let all = line_on t k g.row.N c.args.at _ _ (sym c.in-ok-kind.ensures.is) (c.loop-i.invariant.3 ∙ ap (onto (take c.loop-i.i c.loop-i.numbers)) flaw) in
+    let flaw = fields_flaw t k j (j - 1) c.loop-i.next c.in_err-value.field-0.0 (omega arith) (sym c.in_err-value.ensures.is) in
+    let all = line_on t k g.row.N c.args.at _ _ (sym c.in_ok-kind.ensures.is) (c.loop-i.invariant.3 ∙ ap (onto (take c.loop-i.i c.loop-i.numbers)) flaw) in
     rw p.1 (record { is = ap Err p.2 ∙ sym all; inside = tt })
 
 pub loop-i-preserved : goal.loop-i-preserved

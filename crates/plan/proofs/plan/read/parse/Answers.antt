@@ -2,8 +2,8 @@ use Rattle.std.proofs.Common.{sym}
 use Rattle.plan.proofs.Exactly.{read_said}
 use Rattle.plan.proofs.plan.read.parse.Goals as goal
 
-pub invariant-of-result : goal.invariant-of-result
-invariant-of-result c =
-    let r = (read_said c.args.text.now _ (sym c.in-ok-contents.ensures.is)).rules in
-    let k = c.in-ok-contents.ensures.inside in
+pub invariant_of-result : goal.invariant_of-result
+invariant_of-result c =
+    let r = (read_said c.args.text.now _ (sym c.in_ok-contents.ensures.is)).rules in
+    let k = c.in_ok-contents.ensures.inside in
     ((k.1, k.2), ((k.0.1.1, k.0.2.1), (r.counts, (r.partitions, (r.accelerators, (r.blocks, (r.slots, tt)))))))

@@ -3,8 +3,8 @@ use Rattle.std.proofs.Common.{refl}
 use Rattle.ports.specs.ProgressLaws.{new_kept, new_progresses}
 use Rattle.ports.proofs.interruptible.Interruptible.blank.Goals as goal
 
-pub invariant-of-result : goal.invariant-of-result
-invariant-of-result c = (refl, (c.requires, (new_kept, tt)))
+pub invariant_of-result : goal.invariant_of-result
+invariant_of-result c = (refl, (c.requires, (new_kept, tt)))
 
 pub returns : goal.returns
 returns c = new_progresses c.args.rate

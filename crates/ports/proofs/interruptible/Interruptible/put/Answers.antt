@@ -3,8 +3,8 @@ use Rattle.std.proofs.Common.{◌∙◌, length-set}
 use Rattle.ports.specs.ProgressLaws.{kept_put, progress_put}
 use Rattle.ports.proofs.interruptible.Interruptible.put.Goals as goal
 
-pub invariant-of-self : goal.invariant-of-self
-invariant-of-self c =
+pub invariant_of-self : goal.invariant_of-self
+invariant_of-self c =
     let me = c.args.self.now in
     (length-set _ _ _ ∙ me.sized, (me.paced, (kept_put me.slots c.args.slot c.args.progress me.sized c.requires.inside me.kept c.requires.kept, tt)))
 

@@ -4,8 +4,8 @@ use Rattle.ports.specs.Maps.{covers}
 use Rattle.ports.specs.MapLaws.{exchanged_covers, exchanged_length}
 use Rattle.ports.proofs.slot_map.SlotMap.exchange.Goals as goal
 
-pub invariant-of-self : goal.invariant-of-self
-invariant-of-self c =
+pub invariant_of-self : goal.invariant_of-self
+invariant_of-self c =
     let me = c.args.self.now in
     let a = c.args.a in
     let b = c.args.b in

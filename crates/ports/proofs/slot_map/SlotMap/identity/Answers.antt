@@ -3,6 +3,6 @@ use Rattle.std.proofs.Common.{refl}
 use Rattle.ports.specs.Maps.{covers}
 use Rattle.ports.proofs.slot_map.SlotMap.identity.Goals as goal
 
-pub invariant-of-result : goal.invariant-of-result
+pub invariant_of-result : goal.invariant_of-result
 unfolding covers
-invariant-of-result c = (refl, (refl, tt))
+invariant_of-result c = (refl, (refl, tt))

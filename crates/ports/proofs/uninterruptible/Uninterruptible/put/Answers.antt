@@ -3,8 +3,8 @@ use Rattle.std.proofs.Common.{◌<◌, ◌∙◌, ⊎_elim, arith, length-set}
 use Rattle.ports.specs.StoringLaws.{put_half, put_current, put_other, stored_put, current_put, current_stays}
 use Rattle.ports.proofs.uninterruptible.Uninterruptible.put.Goals as goal
 
-pub invariant-of-self : goal.invariant-of-self
-invariant-of-self c =
+pub invariant_of-self : goal.invariant_of-self
+invariant_of-self c =
     let me = c.args.self.now in
     let k = c.requires.kept in (
       length-set _ _ _ ∙ me.sized,
@@ -17,8 +17,8 @@ invariant-of-self c =
       ),
     )
 
-pub invariant-of-self-then-slot-self : goal.invariant-of-self-then-slot-self
-invariant-of-self-then-slot-self c =
+pub invariant_of-self-then-slot-self : goal.invariant_of-self-then-slot-self
+invariant_of-self-then-slot-self c =
     let me = c.args.self.now in
     let k = c.requires.kept in (
       length-set _ _ _ ∙ me.sized,
@@ -31,8 +31,8 @@ invariant-of-self-then-slot-self c =
       ),
     )
 
-pub invariant-of-self-else-slot-self : goal.invariant-of-self-else-slot-self
-invariant-of-self-else-slot-self c =
+pub invariant_of-self-else-slot-self : goal.invariant_of-self-else-slot-self
+invariant_of-self-else-slot-self c =
     let me = c.args.self.now in
     let k = c.requires.kept in (
       length-set _ _ _ ∙ me.sized,
