@@ -14,12 +14,12 @@ left : (c : Claim) (r : Result Report Refusal) → is_ok r ≡ false → c ≡ a
 left c (Ok x) e = let z : ◌≡◌ {A = ℕ} 0 1 = cc in absurd (omega arith)
 left c (Err why) e = refl
 
-pub returns-then-is-ok : goal.returns-then-is-ok
-returns-then-is-ok g c =
+pub returns-then-is_ok : goal.returns-then-is_ok
+returns-then-is_ok g c =
     let p = c.collect-answer.ensures in
-    record { performed = p; claim = spent _ _ (sym c.if-is-ok.ensures.value); given_back = gives_back p }
+    record { performed = p; claim = spent _ _ (sym c.if-is_ok.ensures.value); given_back = gives_back p }
 
-pub returns-else-is-ok : goal.returns-else-is-ok
-returns-else-is-ok g c =
+pub returns-else-is_ok : goal.returns-else-is_ok
+returns-else-is_ok g c =
     let p = c.collect-answer.ensures in
-    record { performed = p; claim = left _ _ (sym c.if-is-ok.ensures.value); given_back = gives_back p }
+    record { performed = p; claim = left _ _ (sym c.if-is_ok.ensures.value); given_back = gives_back p }

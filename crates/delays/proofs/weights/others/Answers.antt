@@ -18,8 +18,8 @@ heavy p rate k n j r xs paced few is all =
     let same = is ∙ ap (greatest (weight_for (layout p) rate k n j)) all in
     (same, omega (arith, same, heaviest_within (layout p) (kept p) rate paced k n j few))
 
-pub overflow-add-sum : goal.overflow-add-sum
-overflow-add-sum c =
+pub overflow_add-sum : goal.overflow_add-sum
+overflow_add-sum c =
     let h = heavy c.args.plan.now _ _ _ c.loop-task.task _ _ c.requires.paced c.requires.few c.greatest-sum.ensures c.accelerators.ensures in
     omega (arith, h.1, c.loop-task.invariant.1, c.tasks-task-end.ensures.few)
 

@@ -17,8 +17,8 @@ counted k xs = count_by (λ b. eqb b.partition k) xs
 few : (k : ℕ) (xs : List Accelerator) (i : ℕ) (p : Plan) → xs ≡ (layout p).accelerators → counted k (take i xs) ≤ 32
 few k xs i p e = omega (arith, count_by-le-length (λ b. eqb b.partition k) (take i xs), length-take i xs, ap length e, accelerators_few p)
 
-pub overflow-add-count : goal.overflow-add-count
-overflow-add-count c = omega (arith, few c.args.partition _ c.loop-accelerator.accelerator-index c.args.plan.now c.accelerators-accelerator-items.ensures, c.loop-accelerator.invariant)
+pub overflow_add-count : goal.overflow_add-count
+overflow_add-count c = omega (arith, few c.args.partition _ c.loop-accelerator.accelerator-index c.args.plan.now c.accelerators-accelerator-items.ensures, c.loop-accelerator.invariant)
 
 pub loop-accelerator-preserved : goal.loop-accelerator-preserved
 loop-accelerator-preserved c =

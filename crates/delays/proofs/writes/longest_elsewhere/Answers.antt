@@ -12,10 +12,10 @@ returns c =
     let p = c.args.plan.now in
     let l = layout p in
     let measured = place_ticks l c.args.rate c.args.partition in
-    let all : c.partition-count.result - 0 ≡ length l.partitions = omega (arith, c.partition-count.ensures.is) in
+    let all : c.partition_count.result - 0 ≡ length l.partitions = omega (arith, c.partition_count.ensures.is) in
     let is =
     c.greatest.ensures
-    ∙ ap (λ n. greatest measured (take n c.with-numbers-table.result)) all
-    ∙ ap (greatest measured) c.with-numbers-table.ensures.is
+    ∙ ap (λ n. greatest measured (take n c.with_numbers-table.result)) all
+    ∙ ap (greatest measured) c.with_numbers-table.ensures.is
     ∙ elsewhere_is l (kept p) c.args.rate c.args.partition in
     record { is = is; small = omega (arith, is, longest_within l (kept p) c.args.rate c.requires c.args.partition) }

@@ -10,11 +10,11 @@ loop-n-init g c =
 pub loop-n-preserved : goal.loop-n-preserved
 loop-n-preserved g c =
     let z : c.args.stay - c.loop-n.n ≡ c.args.stay - (c.loop-n.n + 1) + 1 = omega arith in
-    watched_on c.requires.names.task_is c.loop-n.invariant c.report-done.ensures _ z (sym c.if-has-ended.ensures) c.tick.ensures
+    watched_on c.requires.names.task_is c.loop-n.invariant c.report_done.ensures _ z (sym c.if-has_ended.ensures) c.tick.ensures
 
-pub returns-then-has-ended : goal.returns-then-has-ended
-returns-then-has-ended g c =
-    watched_end c.requires.names.task_is c.loop-n.invariant c.report-done.ensures (sym c.if-has-ended.ensures)
+pub returns-then-has_ended : goal.returns-then-has_ended
+returns-then-has_ended g c =
+    watched_end c.requires.names.task_is c.loop-n.invariant c.report_done.ensures (sym c.if-has_ended.ensures)
 
 pub returns : goal.returns
 returns g c = watched_all (let z : c.args.stay - c.loop-n.n ≡ 0 = omega arith in z) c.loop-n.invariant

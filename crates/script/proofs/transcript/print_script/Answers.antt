@@ -6,8 +6,8 @@ use Rattle.script.proofs.Made.{no_lines}
 use Rattle.script.proofs.Prints.{in_place}
 use Rattle.script.proofs.transcript.print_script.Goals as goal
 
-pub returns-then-is-empty : goal.returns-then-is-empty
-returns-then-is-empty c =
+pub returns-then-is_empty : goal.returns-then-is_empty
+returns-then-is_empty c =
     let t = c.args.script.now in
-    let none = no_lines (layout c.args.plan.now) t (eqb-true (length t) 0 (sym c.if-is-empty.ensures)) in
-    IfOk-weaker c.print-refusal-then-is-empty.result _ _ (λ _ e. in_place e none) c.print-refusal-then-is-empty.ensures
+    let none = no_lines (layout c.args.plan.now) t (eqb-true (length t) 0 (sym c.if-is_empty.ensures)) in
+    IfOk-weaker c.print_refusal-then-is_empty.result _ _ (λ _ e. in_place e none) c.print_refusal-then-is_empty.ensures

@@ -15,11 +15,11 @@ loop-a-preserved g c =
     let l = layout c.args.plan.now in
     let a = c.loop-a.a in
     let zero : Row = record { delay = 0; write = 0; stay = 0 } in
-    let is = ap (λ rows. get_or rows a zero) c.table.ensures.after ∙ row_at l _ _ (replicate 32 zero) a zero (omega (arith, c.accelerator-count-a-end.ensures)) (omega (arith, c.accelerator-count-a-end.ensures)) in
-    row_more l _ _ a _ _ _ _ c.loop-a.invariant is c.in_ok-print-row.ensures
+    let is = ap (λ rows. get_or rows a zero) c.table.ensures.after ∙ row_at l _ _ (replicate 32 zero) a zero (omega (arith, c.accelerator_count-a-end.ensures)) (omega (arith, c.accelerator_count-a-end.ensures)) in
+    row_more l _ _ a _ _ _ _ c.loop-a.invariant is c.in_ok-print_row.ensures
 
 pub returns : goal.returns
 returns g c =
     let l = layout c.args.plan.now in
-    let all : c.loop-a.a ≡ length l.accelerators = omega (arith, c.accelerator-count-a-end.ensures) in
+    let all : c.loop-a.a ≡ length l.accelerators = omega (arith, c.accelerator_count-a-end.ensures) in
     in_place c.loop-a.invariant (ap (row_lines l _ _) all)

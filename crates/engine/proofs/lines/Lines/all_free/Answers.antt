@@ -14,6 +14,6 @@ loop-k-preserved c = (
 
 pub returns : goal.returns
 returns c =
-    let e : c.partition-count-count.result ≡ c.loop-k.k = omega arith in
+    let e : c.partition_count-count.result ≡ c.loop-k.k = omega arith in
     ap (λ (n : ℕ). take n (map standing c.loop-k.rows)) e
-    ∙ free_all c.loop-k.rows c.loop-k.k c.loop-k.from (layout c.args.plan.now).partitions _ c.loop-k.invariant.0 c.loop-k.invariant.2 (omega (arith, c.partition-count-count.ensures.is))
+    ∙ free_all c.loop-k.rows c.loop-k.k c.loop-k.from (layout c.args.plan.now).partitions _ c.loop-k.invariant.0 c.loop-k.invariant.2 (omega (arith, c.partition_count-count.ensures.is))

@@ -2,4 +2,4 @@ use Rattle.model.proofs.Laws.{performed}
 use Rattle.engine.proofs.scheduler.Scheduler.collect.Goals as goal
 
 pub returns : goal.returns
-returns g c = performed _ _ _ _ c.hand-over.ensures.answer c.hand-over.ensures.after
+returns g c = performed _ _ _ _ c.hand_over.ensures.answer c.hand_over.ensures.after

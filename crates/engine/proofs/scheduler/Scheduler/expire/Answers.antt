@@ -3,8 +3,8 @@ use Rattle.engine.specs.State.{state}
 use Rattle.model.proofs.Loops.{step_few, step_count, step_rest, expire_less, end_count, end_few, end_rest}
 use Rattle.engine.proofs.scheduler.Scheduler.expire.Goals as goal
 
-pub overflow-add-ended : goal.overflow-add-ended
-overflow-add-ended g c =
+pub overflow_add-ended : goal.overflow_add-ended
+overflow_add-ended g c =
     let few = step_few (state g.P.Port c.loop-i.self) (state g.P.Port c.args.self.now) c.loop-i.ended c.args.self.now.records.places c.loop-i.invariant.0 c.loop-i.invariant.1 c.in-Some.i (sym c.in-Some.ensures.is) in
     omega arith
 

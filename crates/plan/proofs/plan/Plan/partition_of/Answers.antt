@@ -6,8 +6,8 @@ use Rattle.plan.specs.Slots.{slot_count, first_slot}
 use Rattle.plan.proofs.Questions.{partitions_long, slots_more, slots_few, front_in}
 use Rattle.plan.proofs.plan.Plan.partition_of.Goals as goal
 
-pub overflow-add-after : goal.overflow-add-after
-overflow-add-after c = omega (arith, slots_few c.args.self.now c.loop-k.k (omega arith), c.loop-k.invariant)
+pub overflow_add-after : goal.overflow_add-after
+overflow_add-after c = omega (arith, slots_few c.args.self.now c.loop-k.k (omega arith), c.loop-k.invariant)
 
 pub loop-k-preserved : goal.loop-k-preserved
 loop-k-preserved c = (omega (arith, slots_more c.args.self.now c.loop-k.k (omega arith), c.loop-k.invariant), omega arith)

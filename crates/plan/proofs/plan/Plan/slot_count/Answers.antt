@@ -6,8 +6,8 @@ use Rattle.plan.specs.Slots.{slot_count}
 use Rattle.plan.proofs.Questions.{partitions_long, slots_more, slots_few}
 use Rattle.plan.proofs.plan.Plan.slot_count.Goals as goal
 
-pub overflow-add-count : goal.overflow-add-count
-overflow-add-count c = omega (arith, slots_few c.args.self.now c.loop-k.k (omega arith), c.loop-k.invariant)
+pub overflow_add-count : goal.overflow_add-count
+overflow_add-count c = omega (arith, slots_few c.args.self.now c.loop-k.k (omega arith), c.loop-k.invariant)
 
 pub loop-k-preserved : goal.loop-k-preserved
 loop-k-preserved c = omega (arith, slots_more c.args.self.now c.loop-k.k (omega arith), c.loop-k.invariant)

@@ -6,4 +6,12 @@ pub invariant_of-result : goal.invariant_of-result
 invariant_of-result c =
     let r = (read_said c.args.text.now _ (sym c.in_ok-contents.ensures.is)).rules in
     let k = c.in_ok-contents.ensures.inside in
-    ((k.1, k.2), ((k.0.1.1, k.0.2.1), (r.counts, (r.partitions, (r.accelerators, (r.blocks, (r.slots, tt)))))))
+    record {
+      tables = (k.1, k.2);
+      fronts = (k.0.1.1, k.0.2.1);
+      counts = r.counts;
+      parted = r.partitions;
+      owned = r.accelerators;
+      blocks = r.blocks;
+      slots = r.slots;
+    }

@@ -6,7 +6,11 @@ use Rattle.ports.proofs.interruptible.Interruptible.put.Goals as goal
 pub invariant_of-self : goal.invariant_of-self
 invariant_of-self c =
     let me = c.args.self.now in
-    (length-set _ _ _ ∙ me.sized, (me.paced, (kept_put me.slots c.args.slot c.args.progress me.sized c.requires.inside me.kept c.requires.kept, tt)))
+    record {
+      sized = length-set _ _ _ ∙ me.sized;
+      paced = me.paced;
+      kept = kept_put me.slots c.args.slot c.args.progress me.sized c.requires.inside me.kept c.requires.kept;
+    }
 
 pub returns : goal.returns
 returns c =

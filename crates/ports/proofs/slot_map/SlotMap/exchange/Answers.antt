@@ -9,7 +9,8 @@ invariant_of-self c =
     let me = c.args.self.now in
     let a = c.args.a in
     let b = c.args.b in
-    let e = sym c.swapped-self.ensures in (
-      subst (λ (xs : List ℕ). length xs ≡ 32) e (exchanged_length me.places a b ∙ me.sized),
-      (subst (λ (xs : List ℕ). covers xs 32 ≡ true) e (exchanged_covers me.places a b me.sized c.if-a-gt31.false c.if-b-gt31.false me.whole), tt),
-    )
+    let e = sym c.swapped-self.ensures in
+    record {
+      sized = subst (λ (xs : List ℕ). length xs ≡ 32) e (exchanged_length me.places a b ∙ me.sized);
+      whole = subst (λ (xs : List ℕ). covers xs 32 ≡ true) e (exchanged_covers me.places a b me.sized c.if-a-gt31.false c.if-b-gt31.false me.whole);
+    }

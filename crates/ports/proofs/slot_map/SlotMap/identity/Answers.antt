@@ -5,4 +5,4 @@ use Rattle.ports.proofs.slot_map.SlotMap.identity.Goals as goal
 
 pub invariant_of-result : goal.invariant_of-result
 unfolding covers
-invariant_of-result c = (refl, (refl, tt))
+invariant_of-result c = record { sized = refl; whole = refl }

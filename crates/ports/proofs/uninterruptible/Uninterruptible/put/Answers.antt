@@ -6,44 +6,35 @@ use Rattle.ports.proofs.uninterruptible.Uninterruptible.put.Goals as goal
 pub invariant_of-self : goal.invariant_of-self
 invariant_of-self c =
     let me = c.args.self.now in
-    let k = c.requires.kept in (
-      length-set _ _ _ ∙ me.sized,
-      (
-        me.paced,
-        (
-          stored_put me.slots c.args.slot _ me.sized c.requires.inside me.kept (k.0, k.1, k.3),
-          (current_put me.slots c.args.slot c.args.progress me.sized c.requires.inside c.if-written-size.true, tt),
-        ),
-      ),
-    )
+    let k = c.requires.kept in
+    record {
+      sized = length-set _ _ _ ∙ me.sized;
+      paced = me.paced;
+      kept = stored_put me.slots c.args.slot _ me.sized c.requires.inside me.kept (k.0, k.1, k.3);
+      begun = current_put me.slots c.args.slot c.args.progress me.sized c.requires.inside c.if-written-size.true;
+    }
 
 pub invariant_of-self-then-slot-self : goal.invariant_of-self-then-slot-self
 invariant_of-self-then-slot-self c =
     let me = c.args.self.now in
-    let k = c.requires.kept in (
-      length-set _ _ _ ∙ me.sized,
-      (
-        me.paced,
-        (
-          stored_put me.slots c.args.slot _ me.sized c.requires.inside me.kept (k.0, k.1, k.3),
-          ((me.begun.0, λ (h : 0 < 0). absurd (omega arith)), tt),
-        ),
-      ),
-    )
+    let k = c.requires.kept in
+    record {
+      sized = length-set _ _ _ ∙ me.sized;
+      paced = me.paced;
+      kept = stored_put me.slots c.args.slot _ me.sized c.requires.inside me.kept (k.0, k.1, k.3);
+      begun = (me.begun.0, λ (h : 0 < 0). absurd (omega arith));
+    }
 
 pub invariant_of-self-else-slot-self : goal.invariant_of-self-else-slot-self
 invariant_of-self-else-slot-self c =
     let me = c.args.self.now in
-    let k = c.requires.kept in (
-      length-set _ _ _ ∙ me.sized,
-      (
-        me.paced,
-        (
-          stored_put me.slots c.args.slot _ me.sized c.requires.inside me.kept (k.0, k.1, k.3),
-          (current_stays me.slots me.current me.written c.args.slot _ c.if-slot-self.false me.begun, tt),
-        ),
-      ),
-    )
+    let k = c.requires.kept in
+    record {
+      sized = length-set _ _ _ ∙ me.sized;
+      paced = me.paced;
+      kept = stored_put me.slots c.args.slot _ me.sized c.requires.inside me.kept (k.0, k.1, k.3);
+      begun = current_stays me.slots me.current me.written c.args.slot _ c.if-slot-self.false me.begun;
+    }
 
 pub returns-then-written-size : goal.returns-then-written-size
 returns-then-written-size c =
