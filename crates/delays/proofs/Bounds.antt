@@ -1,14 +1,13 @@
 -- How large the numbers of a delay table can be, on a layout that keeps the rules.
-use Rattle.std.proofs.Common.{◌≡◌, ℕ, zero, suc, ◌+◌, ◌-◌, ◌*◌, ◌/◌, ◌<◌, ◌≤◌, Bool, true, false, cond, eqb, List, [], ◌∷◌, length, get_or, sum_by, ap, ◌∙◌, ⊎_elim, suc-mul, mul-le-mul, div-le_self, arith}
+use Rattle.std.proofs.Common.{ℕ, ◌*◌, ◌≤◌, Bool, true, false, cond, eqb, List, [], ◌∷◌, length, get_or, sum_by, ⊎_elim, suc-mul, mul-le-mul, div-le_self, arith}
 use Rattle.std.specs.List.{range_with_len}
 use Rattle.std.proofs.lemmas.List.FromFn.{length-range_with_len}
 use Rattle.std.proofs.lemmas.List.{get_or_past}
 use Rattle.std.proofs.lemmas.List.Sums.{sum_by-cons, count_by-le-length}
-use Rattle.std.proofs.lemmas.Bool.{cases_lt, cond_both}
+use Rattle.std.proofs.lemmas.Bool.{cases_lt}
 use Rattle.plan.specs.declared.parts.Accelerator.{Accelerator}
 use Rattle.plan.specs.Rules.{Layout, Rules, none, idle}
-use Rattle.delays.specs.Greatest.{greatest}
-use Rattle.delays.specs.Delays.{partition_at, accelerator_at, rounded_up, write_ticks, weight, weight_for, heaviest, others, ticks_elsewhere, longest_elsewhere, accelerators_in, held_up, delay, write_time, stay}
+use Rattle.delays.specs.Delays.{partition_at, accelerator_at, write_ticks, weight, weight_for, heaviest, others, ticks_elsewhere, longest_elsewhere, accelerators_in, held_up, delay}
 use Rattle.delays.proofs.Greatests.{greatest_within}
 use Rattle.delays.proofs.Times.{rounded_within}
 

@@ -1,5 +1,5 @@
 -- Bounds on write times.
-use Rattle.std.proofs.Common.{◌≡◌, ℕ, ◌+◌, ◌-◌, ◌*◌, ◌/◌, ◌<◌, ◌≤◌, div-lt_iff_lt-mul, add-mul, one-mul, le-mul_of_pos_right, arith}
+use Rattle.std.proofs.Common.{ℕ, ◌+◌, ◌-◌, ◌*◌, ◌<◌, ◌≤◌, div-lt_iff_lt-mul, add-mul, one-mul, le-mul_of_pos_right, arith}
 use Rattle.delays.specs.Delays.{rounded_up}
 
 -- it takes at most a tick a block

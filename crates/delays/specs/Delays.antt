@@ -1,6 +1,6 @@
 -- The formulas of the delay table, in whole ticks: delay, write time and stay of each accelerator, from the layout, the
 -- rate of the port in blocks a tick, and whether the port can be interrupted.
-use Rattle.std.specs.Prelude.{ℕ, ◌+◌, ◌-◌, ◌*◌, ◌/◌, Bool, cond, List, length, sum_by, count_by, ◌==◌, nat_eq, slice_index_or}
+use Rattle.std.specs.Prelude.{ℕ, ◌+◌, ◌-◌, ◌*◌, ◌/◌, Bool, cond, sum_by, count_by, ◌==◌, nat_eq, slice_index_or}
 use Rattle.std.specs.List.{range_with_len}
 use Rattle.plan.specs.declared.parts.Accelerator.{Accelerator}
 use Rattle.plan.specs.declared.parts.Partition.{Partition}

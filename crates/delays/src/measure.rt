@@ -1,7 +1,7 @@
 //! The greatest of some things by a measure, for whatever can be measured.
 
 ghost use Rattle.std.specs.Prelude.{◌≡◌, ℕ};
-ghost use Rattle.delays.specs.Greatest.{greatest as greatest-of};
+ghost use Rattle.delays.specs.Greatest.{greatest as greatest_of};
 
 /// What can be measured, in a context `C` that says what the measure depends on besides.
 pub trait Measure<C> {
@@ -13,7 +13,7 @@ pub trait Measure<C> {
 
 /// The greatest measure among the items, or 0 where there is none.
 pub fn greatest<C, T: Measure<C>>(items: &[T], context: &C) -> u64
-    ensures { result ≡ greatest-of (measured context.now) items.now }
+    ensures { result ≡ greatest_of (T.measured context.now) items.now }
 {
     let mut best = 0;
     for item in items {

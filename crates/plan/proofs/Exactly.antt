@@ -1,5 +1,5 @@
 -- A text is accepted exactly when it says a layout that keeps the rules, and that layout is what is read.
-use Rattle.std.proofs.Common.{◌≡◌, ℕ, ◌+◌, ◌<◌, ◌≤◌, eqb, ltb, List, [], ◌∷◌, ◌++◌, length, take, drop, Ok, Err, Result, sym, refl, ap, ◌∙◌, subst, append_assoc, append-nil, arith, length-append}
+use Rattle.std.proofs.Common.{◌≡◌, ℕ, ◌+◌, ◌≤◌, eqb, ltb, List, [], ◌∷◌, ◌++◌, length, take, drop, Ok, Err, sym, ap, ◌∙◌, subst, append-nil, arith, length-append}
 use Rattle.std.proofs.lemmas.List.{drop_all}
 use Rattle.std.proofs.lemmas.Bool.{cond-true, cond-false, le-ltb, ltb-false, eq-eqb, eqb-true}
 use Rattle.text.specs.Results.{and_then}
@@ -9,9 +9,9 @@ use Rattle.plan.specs.declared.parts.Partition.{Partition}
 use Rattle.plan.specs.declared.plan.contents.Contents.{Contents}
 use Rattle.plan.specs.declared.faults.Fault.{Fault}
 use Rattle.plan.specs.declared.faults.Fault.TheVariants.{Length, Rest}
-use Rattle.plan.specs.Rules.{Layout, Rules, AcceleratorKept, idle}
+use Rattle.plan.specs.Rules.{Layout, AcceleratorKept, idle}
 use Rattle.plan.specs.Reading.{ContentsKept, contents_at, Left, less, partition_at, accelerator_at, on_line, partitions_at, accelerators_at, finished, after_contents, reading}
-use Rattle.plan.specs.Texts.{Line, PartitionLine, AcceleratorLine, TextOf, Says}
+use Rattle.plan.specs.Texts.{Line, PartitionLine, AcceleratorLine, Says}
 use Rattle.plan.proofs.Items.{ok_below}
 use Rattle.plan.proofs.Lines.{PartitionFits, contents_written, contents_was, partition_written, partition_was, accelerator_written, accelerator_was}
 use Rattle.plan.proofs.Written.{items_written, items_were, alone_from, alone_each, partitions_from, partitions_kept}

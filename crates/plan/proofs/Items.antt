@@ -1,5 +1,5 @@
 -- Items, one a line, read one after the other into a table.
-use Rattle.std.proofs.Common.{◌≡◌, ℕ, suc, ◌+◌, ◌-◌, ◌<◌, List, [], ◌∷◌, length, take, set, Ok, Err, Result, sym, refl, ap, ◌∙◌, subst, add-zero, arith}
+use Rattle.std.proofs.Common.{◌≡◌, ℕ, suc, ◌+◌, ◌-◌, ◌<◌, List, [], ◌∷◌, length, take, set, Ok, Err, Result, sym, ap, ◌∙◌, add-zero, arith}
 use Rattle.std.proofs.lemmas.List.{length-set}
 use Rattle.text.specs.Results.{and_then, onto}
 use Rattle.text.proofs.Fields.{onto_nil, onto_more, onto_none}

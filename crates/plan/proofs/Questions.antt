@@ -1,11 +1,11 @@
 -- What a plan answers, and that every plan keeps the rules.
-use Rattle.std.proofs.Common.{◌≡◌, ℕ, ◌+◌, ◌<◌, ◌≤◌, List, length, get_or, take, sum_by, sym, ap, ◌∙◌, arith}
+use Rattle.std.proofs.Common.{◌≡◌, ℕ, ◌+◌, ◌<◌, ◌≤◌, List, length, get_or, take, sym, ap, ◌∙◌, arith}
 use Rattle.std.proofs.lemmas.List.{get_or-take, get_or_past, length-take, length-take-le}
 use Rattle.std.proofs.lemmas.List.Sums.{sum_by_more, sum_by-take-le}
 use Rattle.plan.specs.declared.plan.Plan.{Plan}
 use Rattle.plan.specs.Layouts.{layout}
 use Rattle.plan.specs.Rules.{Rules, none, slots_in}
-use Rattle.plan.specs.Slots.{first_slot, slot_count}
+use Rattle.plan.specs.Slots.{first_slot}
 
 pub kept : (p : Plan) → Rules (layout p)
 kept p = record { counts = p.counts; partitions = p.parted; accelerators = p.owned; blocks = p.blocks; slots = p.slots }

@@ -9,7 +9,7 @@ use Rattle.text.specs.Results.{and_then, onto}
 use Rattle.text.specs.Numbers.{malformed, digits, numeral}
 use Rattle.text.specs.Lines.{letter_at, with_byte, spaced, fields_at, line_at}
 use Rattle.text.specs.Forms.{Digit, written, Numeral, Fields, Line}
-use Rattle.text.proofs.Fields.{onto_more, line_on, line_done}
+use Rattle.text.proofs.Fields.{line_done}
 
 -- a refusal is not an answer
 pub refused : {A E X : Type 0} (e : E) (x : A) → ◌≡◌ {A = Result A E} (Err e) (Ok x) → X

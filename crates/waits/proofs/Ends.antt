@@ -1,5 +1,5 @@
 -- A request ends, or an ended one is collected: a record that is not unended comes to stand at one place.
-use Rattle.std.proofs.Common.{◌≡◌, ℕ, ◌+◌, ◌-◌, ◌*◌, ◌<◌, ◌≤◌, true, false, sym, refl, ap, ◌∙◌, subst, arith}
+use Rattle.std.proofs.Common.{◌≡◌, ℕ, ◌+◌, ◌*◌, ◌<◌, ◌≤◌, true, false, sym, refl, ap, ◌∙◌, subst, arith}
 use Rattle.std.proofs.lemmas.Bool.{both_ways}
 use Rattle.waits.specs.Table.{Stage, Rec, Given, State, Held, Queued, Reserved, Occupant, Unended, held_stage, occupant_stage, unended_stage, occ}
 use Rattle.waits.specs.Table.Stage.{empty, queued, reserved, running, ended}

@@ -1,4 +1,4 @@
-use Rattle.std.proofs.Common.{◌≡◌, ap, ◌∙◌, arith}
+use Rattle.std.proofs.Common.{ap, ◌∙◌, arith}
 use Rattle.plan.specs.Layouts.{layout}
 use Rattle.delays.specs.Rows.{row_of}
 use Rattle.delays.proofs.Fills.{filled_more}

@@ -1,4 +1,4 @@
-use Rattle.std.proofs.Common.{◌≡◌, ◌++◌, map, length, drop}
+use Rattle.std.proofs.Common.{◌≡◌, ◌++◌, map, drop}
 use Rattle.std.specs.List.{range_with_len}
 use Rattle.plan.specs.Layouts.{layout}
 use Rattle.delays.specs.Rows.{row_of}

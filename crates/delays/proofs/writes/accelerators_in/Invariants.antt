@@ -1,4 +1,4 @@
-use Rattle.std.proofs.Common.{◌≡◌, ◌≤◌, eqb, length, take, count_by}
+use Rattle.std.proofs.Common.{◌≡◌, eqb, take, count_by}
 use Rattle.delays.proofs.writes.accelerators_in.Given as goal
 
 abbrev pub invariant-loop-accelerator : goal.invariant-loop-accelerator

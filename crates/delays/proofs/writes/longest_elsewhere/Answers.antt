@@ -1,4 +1,4 @@
-use Rattle.std.proofs.Common.{◌≡◌, ◌-◌, length, take, sym, ap, ◌∙◌, arith}
+use Rattle.std.proofs.Common.{◌≡◌, ◌-◌, length, take, ap, ◌∙◌, arith}
 use Rattle.plan.specs.Layouts.{layout}
 use Rattle.plan.proofs.Questions.{kept}
 use Rattle.delays.specs.Greatest.{greatest}

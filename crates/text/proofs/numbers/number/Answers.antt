@@ -1,4 +1,4 @@
-use Rattle.std.proofs.Common.{sym, ◌∙◌, inl, inr, arith}
+use Rattle.std.proofs.Common.{sym, inl, inr, arith}
 use Rattle.text.proofs.Digits.{Stop, too_long, one_more, no_digit, done}
 use Rattle.text.proofs.numbers.number.Goals as goal
 use Rattle.text.proofs.numbers.number.Goals.{then-loop-next-test+else-is_ascii_digit, else-loop-next-test}

@@ -1,7 +1,6 @@
 use Rattle.std.proofs.Common.{◌≤◌, sym, subst, arith}
 use Rattle.plan.specs.declared.parts.Accelerator.{Accelerator}
-use Rattle.plan.specs.Layouts.{layout}
-use Rattle.plan.specs.Rules.{idle, AcceleratorKept}
+use Rattle.plan.specs.Rules.{idle}
 use Rattle.plan.proofs.Questions.{front_in, front_past, accelerators_long}
 use Rattle.plan.proofs.plan.Plan.accelerator.Goals as goal
 

@@ -1,7 +1,7 @@
-use Rattle.std.proofs.Common.{◌+◌, ◌≤◌, Ok, Err, sym, refl, ap, ◌∙◌, arith}
-use Rattle.std.proofs.lemmas.Result.{err_from_is_err_and, IfOk-at_ok}
-use Rattle.plan.specs.Reading.{partition_at, less, on_line, fronted}
-use Rattle.plan.proofs.Items.{Sofar, begun, flawed, one_more, all_read, ok_below}
+use Rattle.std.proofs.Common.{◌+◌, Err, sym, refl, ap, ◌∙◌, arith}
+use Rattle.std.proofs.lemmas.Result.{err_from_is_err_and}
+use Rattle.plan.specs.Reading.{on_line}
+use Rattle.plan.proofs.Items.{begun, flawed, one_more, all_read}
 use Rattle.plan.proofs.plan.read.partition_lines.Goals as goal
 
 pub loop-k-init : goal.loop-k-init
