@@ -20,7 +20,7 @@ use Rattle.model.specs.States.{State, lines_from}
 use Rattle.model.specs.Moves.{settle, finish, runs_in}
 use Rattle.model.specs.Calls.{enter, empty, report, tick_after, answer, after}
 use Rattle.model.specs.Runs.{Event, Trace, Started, Reached}
-use Rattle.model.specs.Promises.{holds, holders, gives, collects, collected, Since, Kept}
+use Rattle.model.specs.Promises.{holds, holders, gives, collects, Since, Kept}
 use Rattle.model.proofs.Stages.{no_true}
 use Rattle.model.proofs.Tables.{sum_counting}
 use Rattle.model.proofs.Ways.{rows_on, Way, Ends, Framed, framed, way_settle}

@@ -1,5 +1,5 @@
 -- A tick writes for whom the rules of the port say, and an image goes on where it stopped.
-use Rattle.std.proofs.Common.{◌≡◌, ℕ, ◌+◌, ◌-◌, ◌*◌, ◌<◌, ◌≤◌, Bool, true, false, cond, ◌&&◌, eqb, List, map, length, Some, None, Option, sym, refl, ap, ◌∙◌, subst, ⊎_elim, mul-one, mul-add, arith}
+use Rattle.std.proofs.Common.{◌≡◌, ℕ, ◌+◌, ◌*◌, ◌<◌, ◌≤◌, Bool, true, false, cond, ◌&&◌, eqb, List, map, length, Some, None, Option, sym, refl, ap, ◌∙◌, subst, ⊎_elim, mul-one, mul-add, arith}
 use Rattle.std.proofs.lemmas.List.{get_or-map, length-map, length-set}
 use Rattle.std.proofs.lemmas.Bool.{cases_eq, cases_lt, cases_Bool, eq-eqb, ne_eqb, and_parts, both_ways, cond-true, cond-false}
 use Rattle.plan.specs.Rules.{Layout}

@@ -1,5 +1,5 @@
 -- Each move of the scheduler is a move that the law of the waits knows, and keeps what every state keeps.
-use Rattle.std.proofs.Common.{◌≡◌, ℕ, suc, ◌+◌, ◌-◌, ◌<◌, ◌≤◌, Bool, true, false, cond, eqb, ltb, List, [], map, length, get_or, set, sym, refl, ap, ◌∙◌, subst, inl, inr, ⊎_elim, mul-one, mul-add, arith}
+use Rattle.std.proofs.Common.{◌≡◌, ℕ, suc, ◌+◌, ◌<◌, ◌≤◌, Bool, true, false, cond, eqb, ltb, List, [], map, length, get_or, set, sym, refl, ap, ◌∙◌, subst, inl, inr, ⊎_elim, mul-one, mul-add, arith}
 use Rattle.std.proofs.lemmas.List.{get_or-set_same, get_or-set_other, length-map, length_push}
 use Rattle.std.proofs.lemmas.Bool.{cases_eq, cases_lt, eq-eqb, ne_eqb, eqb-true, eqb-false, and_parts, and_from, and_cases, both_ways, cond_both, ltb-true, ltb-false}
 use Rattle.plan.specs.Rules.{Layout}
@@ -11,12 +11,12 @@ use Rattle.model.specs.declared.requests.Outcome.TheVariants.{Flaw}
 use Rattle.model.specs.declared.requests.Stage.{Stage}
 use Rattle.model.specs.declared.requests.Stage.TheVariants.{Queued, Reserved, Running, Ended}
 use Rattle.model.specs.declared.requests.Record.{Record}
-use Rattle.model.specs.Records.{blank, at, one, queued_stage, reserved_stage, running_stage, occupant_stage, held_stage, waiting_stage, slot_of, staged, aged, fed_record, new}
+use Rattle.model.specs.Records.{blank, at, one, queued_stage, reserved_stage, running_stage, occupant_stage, held_stage, slot_of, staged, aged, fed_record, new}
 use Rattle.model.specs.Lowests.{NoneWith}
 use Rattle.model.specs.States.{State, line, part, run_limit}
 use Rattle.model.specs.Moves.{joined, is_reserved, grant, finish, stage_fed, write, idle_on}
 use Rattle.model.specs.Calls.{enter, empty}
-use Rattle.model.proofs.Ways.{Grants, Ends, keeps}
+use Rattle.model.proofs.Ways.{Grants, Ends}
 use Rattle.model.proofs.Sames.{Chosen}
 use Rattle.model.proofs.Happens.{Accepts, Collects}
 use Rattle.model.proofs.Balances.{joined_room, written_as}

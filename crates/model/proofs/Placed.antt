@@ -4,7 +4,7 @@ use Rattle.std.specs.List.{range_with_len}
 use Rattle.std.proofs.lemmas.List.{get_or_past, length-set}
 use Rattle.std.proofs.lemmas.List.Sums.{sum_by-cons, get_or-le-sum_by}
 use Rattle.std.proofs.lemmas.Bool.{cases_eq, cases_lt, cases_Bool, eq-eqb, ne_eqb, cond-true, cond-false}
-use Rattle.plan.specs.Rules.{Layout, Rules, none}
+use Rattle.plan.specs.Rules.{Layout, Rules}
 use Rattle.plan.specs.Slots.{first_slot, SlotIn}
 use Rattle.delays.specs.Delays.{partition_at}
 use Rattle.delays.proofs.Bounds.{tasks_within}

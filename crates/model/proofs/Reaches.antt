@@ -15,7 +15,7 @@ use Rattle.model.specs.declared.calls.Answer.{Answer}
 use Rattle.model.specs.Records.{blank, at}
 use Rattle.model.specs.States.{State, lines_from, shut_below, start}
 use Rattle.model.specs.Moves.{queued_in, settle, finish, advance, ready, choose}
-use Rattle.model.specs.Calls.{enter, empty, tick_after}
+use Rattle.model.specs.Calls.{enter, tick_after}
 use Rattle.model.specs.Runs.{Trace, Reached}
 use Rattle.model.specs.Promises.{Images}
 use Rattle.model.proofs.Tables.{at_set}

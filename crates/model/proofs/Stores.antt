@@ -1,5 +1,5 @@
 -- What the port holds for each request: so much of a reserved one, all of a running one, and nothing half written for anyone else.
-use Rattle.std.proofs.Common.{◌≡◌, ℕ, ◌+◌, ◌-◌, ◌*◌, ◌<◌, ◌≤◌, true, false, eqb, List, map, length, set, sym, refl, ap, ◌∙◌, subst, ⊎_elim, mul-zero, arith}
+use Rattle.std.proofs.Common.{◌≡◌, ℕ, ◌+◌, ◌*◌, ◌<◌, ◌≤◌, true, false, eqb, List, map, length, set, sym, refl, ap, ◌∙◌, subst, ⊎_elim, mul-zero, arith}
 use Rattle.std.proofs.lemmas.List.{get_or-map, get_or-set_same, length-set}
 use Rattle.std.proofs.lemmas.Bool.{cases_eq, eqb-true, and_parts, both_ways}
 use Rattle.plan.specs.Rules.{Layout}
@@ -11,7 +11,7 @@ use Rattle.model.specs.declared.requests.Outcome.{Outcome}
 use Rattle.model.specs.declared.requests.Stage.{Stage}
 use Rattle.model.specs.declared.requests.Stage.TheVariants.{Empty, Queued, Reserved, Running, Ended}
 use Rattle.model.specs.declared.requests.Record.{Record}
-use Rattle.model.specs.Records.{blank, at, queued_stage, reserved_stage, occupant_stage, unended_stage, held_stage, slot_of, staged, aged, new, lowest}
+use Rattle.model.specs.Records.{blank, at, queued_stage, reserved_stage, occupant_stage, unended_stage, held_stage, slot_of, staged, aged, new}
 use Rattle.model.specs.States.{State, moved, line, part}
 use Rattle.model.specs.Moves.{joined, grant, free, finish, idle_on}
 use Rattle.model.specs.Calls.{enter, empty}

@@ -12,7 +12,7 @@ use Rattle.model.specs.Records.{blank, at, one, held_stage, unended_stage, new}
 use Rattle.model.specs.States.{State}
 use Rattle.model.specs.Calls.{enter, empty, report}
 use Rattle.model.specs.Runs.{Event, Trace}
-use Rattle.model.specs.Promises.{holds, unended, given, Since, Told, ticking, ticks, overrun}
+use Rattle.model.specs.Promises.{unended, given, Since, Told, ticking, ticks, overrun}
 use Rattle.model.proofs.Stages.{no_true}
 use Rattle.model.proofs.Tables.{at_set}
 use Rattle.model.proofs.Sames.{Same}

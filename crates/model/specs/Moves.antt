@@ -1,5 +1,5 @@
 -- How requests move: a grant, an end, settling, and the parts of a tick.
-use Rattle.std.specs.Prelude.{ℕ, zero, suc, ◌+◌, ◌-◌, Bool, cond, ◌&&◌, List, [], ◌∷◌, ◌++◌, map, length, take, Some, None, Ok, Err, Option, Result, ◌==◌, nat_lt, slice_set}
+use Rattle.std.specs.Prelude.{ℕ, zero, suc, ◌-◌, Bool, cond, ◌&&◌, List, [], ◌∷◌, ◌++◌, map, length, take, Some, None, Ok, Err, Option, Result, ◌==◌, nat_lt, slice_set}
 use Rattle.plan.specs.Rules.{Layout}
 use Rattle.delays.specs.Delays.{partition_at}
 use Rattle.ports.specs.declared.answers.Refusal.{Refusal}
