@@ -1,5 +1,5 @@
 -- What a line holds after each move.
-use Rattle.std.proofs.Common.{◌≡◌, ℕ, zero, suc, ◌+◌, ◌-◌, ◌<◌, ◌≤◌, List, [], ◌∷◌, ◌++◌, map, length, get_or, take, drop, set, Some, None, Option, sym, refl, ap, ◌∙◌, arith}
+use Rattle.std.proofs.Common.{◌≡◌, ℕ, zero, suc, ◌+◌, ◌-◌, ◌<◌, ◌≤◌, List, [], ◌∷◌, ◌++◌, map, length, get_or, take, drop, set, Some, None, sym, refl, ap, ◌∙◌, arith}
 use Rattle.std.proofs.lemmas.List.{take_more_set, take_all, take-append-le, drop-take, length-take, length-drop, length_push, get_or-map, map-set, set_past, length-map, get_or-take, get_or_past, length-take-le}
 use Rattle.model.specs.Moves.{joined}
 use Rattle.engine.specs.declared.lines.Line.{Line}

@@ -1,7 +1,5 @@
 -- The state that a scheduler stands for.
-use Rattle.std.specs.Prelude.{Bool}
 use Rattle.plan.specs.Layouts.{layout}
-use Rattle.ports.specs.Meaning.{Meaning}
 use Rattle.ports.specs.declared.port.Port as ports
 use Rattle.model.specs.States.{State}
 use Rattle.engine.specs.Views.{rows_of}

@@ -1,4 +1,4 @@
-use Rattle.std.proofs.Common.{◌≡◌, ℕ, suc, ◌+◌, length, Option, refl, ap, ◌∙◌, add-one, arith}
+use Rattle.std.proofs.Common.{◌≡◌, ℕ, length, Option, refl, ap, ◌∙◌, add-one, arith}
 use Rattle.model.specs.Records.{lower, lowest_below}
 use Rattle.engine.proofs.records.Records.lowest.Goals as goal
 

@@ -1,4 +1,4 @@
-use Rattle.std.proofs.Common.{◌≡◌, ◌<◌, sym, arith}
+use Rattle.std.proofs.Common.{sym, arith}
 use Rattle.engine.specs.State.{state}
 use Rattle.model.proofs.Loops.{step_few, step_count, step_rest, expire_less, end_count, end_few, end_rest}
 use Rattle.engine.proofs.scheduler.Scheduler.expire.Goals as goal
@@ -25,7 +25,7 @@ pub returns : goal.returns
 returns g c =
     let s = state g.P.Port c.loop-i.self in
     let s₀ = state g.P.Port c.args.self.now in
-    let e = sym c.in-default.ensures.is in
+    let e = sym c.in_default.ensures.is in
     record {
       count = end_count s s₀ c.loop-i.ended c.args.self.now.records.places c.loop-i.invariant.0 c.loop-i.invariant.1 e;
       few = end_few s s₀ c.loop-i.ended c.args.self.now.records.places c.loop-i.invariant.0 c.loop-i.invariant.1 e;

@@ -1,4 +1,4 @@
-use Rattle.std.proofs.Common.{◌≡◌, refl, ap, ◌∙◌, add-one}
+use Rattle.std.proofs.Common.{refl, ap, ◌∙◌, add-one}
 use Rattle.ports.specs.Meaning.{Meaning}
 use Rattle.ports.specs.Calls.{shut_after}
 use Rattle.model.specs.States.{shut_below}
