@@ -9,10 +9,10 @@ returns-in-Ok g c =
     record {
       performed = p;
       names = named p (kept c.args.scheduler.now.plan);
-      handed-over = record { keeps = keeps_all p (λ t. refl); goes_on = onward p; handed = handed p };
+      handed_over = record { keeps = keeps_all p (λ t. refl); goes_on = onward p; handed = handed p };
     }
 
 pub returns-in-Err : goal.returns-in-Err
 returns-in-Err g c =
     let p = c.in-Err.ensures in
-    record { performed = p; names = tt; handed-over = record { keeps = keeps_all p (λ t. refl); goes_on = onward p; handed = λ r. tt } }
+    record { performed = p; names = tt; handed_over = record { keeps = keeps_all p (λ t. refl); goes_on = onward p; handed = λ r. tt } }
