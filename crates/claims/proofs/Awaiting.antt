@@ -1,5 +1,5 @@
 -- Claims in a run: how a call keeps them, and that a collection is accepted in time.
-use Rattle.std.proofs.Common.{◌≡◌, ℕ, ◌+◌, ◌<◌, ◌≤◌, Bool, true, false, cond, ◌&&◌, eqb, leb, [], ◌∷◌, length, Some, Ok, Err, Option, Result, sym, refl, ap, ◌∙◌, subst, ⊎_elim, arith}
+use Rattle.std.proofs.Common.{◌≡◌, ℕ, ◌+◌, ◌<◌, ◌≤◌, Bool, true, false, cond, eqb, leb, [], ◌∷◌, length, Some, Ok, Err, Option, Result, sym, refl, ap, ◌∙◌, subst, ⊎_elim, arith}
 use Rattle.std.proofs.lemmas.Bool.{cases_Bool, cases_eq, eq-eqb, ne_eqb, cond-true, cond-false, leb-false}
 use Rattle.plan.specs.Rules.{Layout, Rules}
 use Rattle.delays.specs.Delays.{stay}
@@ -20,7 +20,7 @@ use Rattle.model.specs.Laws.{Performed}
 use Rattle.model.proofs.Traces.{since_inv, none_since, request_inj, refused_ticket}
 use Rattle.model.proofs.Sounds.{sound}
 use Rattle.claims.specs.declared.Claim.{Claim}
-use Rattle.claims.specs.Claims.{Spent, Names}
+use Rattle.claims.specs.Claims.{Names}
 use Rattle.claims.specs.Awaits.{Run, stay_in, Awaited, Over, Onward, Keeps, any, other_than, Handed, GivesBack}
 
 one_same : (t : ℕ) → one (eqb t t) ≡ 1

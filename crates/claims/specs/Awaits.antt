@@ -1,5 +1,5 @@
 -- What claims stand for in a run: requests that were accepted and are not collected, and how long they can take yet.
-use Rattle.std.specs.Prelude.{◌≡◌, ℕ, ◌+◌, ◌<◌, ◌≤◌, Bool, true, false, length, Ok, Err, Result}
+use Rattle.std.specs.Prelude.{◌≡◌, ℕ, ◌+◌, ◌<◌, ◌≤◌, Bool, false, length, Ok, Err, Result}
 use Rattle.plan.specs.Rules.{Layout}
 use Rattle.delays.specs.Delays.{stay}
 use Rattle.model.specs.declared.refusals.Refusal.{Refusal}

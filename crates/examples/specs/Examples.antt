@@ -10,7 +10,6 @@ use Rattle.ports.specs.Calls.{new_port, flaw_after}
 use Rattle.ports.specs.Meaning.{Meaning}
 use Rattle.model.specs.declared.requests.Outcome.{Outcome}
 use Rattle.model.specs.declared.requests.Outcome.TheVariants.{Finished, Overrun, Flaw}
-use Rattle.model.specs.declared.requests.Report.{Report}
 use Rattle.model.specs.declared.refusals.Refusal.TheVariants.{Uncollected, NoTicketLeft}
 use Rattle.model.specs.declared.calls.Call.{Call}
 use Rattle.model.specs.declared.calls.Call.TheVariants.{Request, Tick, Done, Collect}

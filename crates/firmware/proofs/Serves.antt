@@ -1,5 +1,5 @@
 -- What is known from one call of a round to the next.
-use Rattle.std.proofs.Common.{◌≡◌, ℕ, ◌<◌, ◌≤◌, Bool, List, [], length, get_or, IfOk, Ok, Err, Result, sym, refl, ap, ◌∙◌, subst, arith}
+use Rattle.std.proofs.Common.{◌≡◌, ℕ, ◌<◌, ◌≤◌, Bool, List, [], length, get_or, IfOk, Ok, Err, Result, sym, ap, ◌∙◌, subst, arith}
 use Rattle.delays.specs.declared.table.Row.{Row}
 use Rattle.delays.specs.Delays.{stay}
 use Rattle.delays.specs.Rows.{table_after}
@@ -12,7 +12,7 @@ use Rattle.model.specs.Laws.{Opened}
 use Rattle.model.proofs.Reaches.{start_rate}
 use Rattle.claims.specs.declared.Claim.{Claim}
 use Rattle.claims.specs.Claims.{Names}
-use Rattle.claims.specs.Awaits.{Run, stay_in, Awaited, Onward, HandedIf, HandsOver}
+use Rattle.claims.specs.Awaits.{stay_in, Awaited, Onward, HandedIf, HandsOver}
 use Rattle.firmware.specs.Readings.{Ready, Collected}
 use Rattle.firmware.specs.Rounds.{no_row, stay_at, Serving}
 

@@ -1,5 +1,5 @@
 -- How claims go on through the calls of a reading.
-use Rattle.std.proofs.Common.{◌≡◌, ℕ, ◌+◌, ◌-◌, ◌<◌, Bool, true, false, cond, not, eqb, leb, Ok, Result, sym, refl, ap, ◌∙◌, subst, arith}
+use Rattle.std.proofs.Common.{◌≡◌, ℕ, ◌+◌, Bool, true, false, cond, not, eqb, leb, Ok, Result, sym, refl, ap, ◌∙◌, subst, arith}
 use Rattle.model.specs.declared.refusals.Refusal.{Refusal}
 use Rattle.model.specs.declared.requests.Report.{Report}
 use Rattle.model.specs.declared.requests.Stage.{Stage}
@@ -9,11 +9,11 @@ use Rattle.model.specs.declared.calls.Call.TheVariants.{Tick}
 use Rattle.model.specs.declared.calls.Answer.{Answer}
 use Rattle.model.specs.Records.{at, held_stage, unended_stage, ended_stage}
 use Rattle.model.specs.States.{State}
-use Rattle.model.specs.Promises.{holds, unended, names}
+use Rattle.model.specs.Promises.{unended, names}
 use Rattle.model.specs.Laws.{Performed}
 use Rattle.model.proofs.Tickets.{holds_is, unended_is}
 use Rattle.claims.specs.declared.Claim.{Claim}
-use Rattle.claims.specs.Awaits.{Run, Awaited, Onward, GivesBack}
+use Rattle.claims.specs.Awaits.{Awaited, Onward, GivesBack}
 use Rattle.claims.proofs.Awaiting.{onward, keeps_all, keeps_tick, held_now, over}
 use Rattle.firmware.specs.Readings.{ended_in, GoesOn, Watched, Collected}
 

@@ -1,5 +1,5 @@
 -- How a reading goes: its claim is awaited, its request ends in time, and the claims of other tasks are kept.
-use Rattle.std.specs.Prelude.{◌≡◌, ℕ, Bool, false, cond, nat_le}
+use Rattle.std.specs.Prelude.{ℕ, Bool, false, cond, nat_le}
 use Rattle.model.specs.Records.{at, ended_stage}
 use Rattle.model.specs.States.{State}
 use Rattle.claims.specs.declared.Claim.{Claim}

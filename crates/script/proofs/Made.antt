@@ -1,9 +1,9 @@
 -- A port that was made from a rate, and a script without lines.
-use Rattle.std.proofs.Common.{◌≡◌, ℕ, Bool, List, [], ◌∷◌, ◌++◌, length, Some, None, Ok, Err, Option, Result, sym, refl, ap, ◌∙◌, subst, arith}
+use Rattle.std.proofs.Common.{◌≡◌, ℕ, Bool, List, [], ◌∷◌, length, Some, None, Ok, Option, sym, refl, ap, ◌∙◌, arith}
 use Rattle.plan.specs.Rules.{Layout}
 use Rattle.ports.specs.declared.answers.Refusal.{Refusal}
 use Rattle.ports.specs.Meaning.{Meaning}
-use Rattle.ports.specs.Calls.{judged, why_rate, new_port, making, made_of}
+use Rattle.ports.specs.Calls.{judged, why_rate, new_port, making}
 use Rattle.script.specs.Lines.{lines_of}
 use Rattle.script.specs.Prints.{Added}
 use Rattle.script.specs.Transcripts.{no_line, row_lines, later_lines, on_rate, on_script}

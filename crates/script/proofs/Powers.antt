@@ -1,5 +1,5 @@
 -- The rule of the table of powers: one test that antt computes.
-use Rattle.std.proofs.Common.{◌≡◌, ℕ, ◌^◌, ◌<◌, Bool, eqb, List, [], ◌∷◌, get_or, eqb→eq}
+use Rattle.std.proofs.Common.{◌≡◌, ℕ, ◌^◌, ◌<◌, eqb, List, [], ◌∷◌, get_or, eqb→eq}
 use Rattle.script.proofs.Tables.{at}
 
 abbrev pub powers : List ℕ

@@ -1,4 +1,4 @@
-use Rattle.std.proofs.Common.{◌≡◌, ℕ, true, false, is_ok, Ok, Err, Result, sym, refl, ◌∙◌, arith}
+use Rattle.std.proofs.Common.{◌≡◌, ℕ, true, false, is_ok, Ok, Err, Result, sym, refl, arith}
 use Rattle.model.specs.declared.requests.Report.{Report}
 use Rattle.model.specs.declared.refusals.Refusal.{Refusal}
 use Rattle.claims.specs.declared.Claim.{Claim}

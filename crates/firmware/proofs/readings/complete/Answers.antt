@@ -1,4 +1,4 @@
-use Rattle.std.proofs.Common.{◌≡◌, is_ok, IfOk, sym, ap, ◌∙◌, subst}
+use Rattle.std.proofs.Common.{is_ok, IfOk, sym, ap, ◌∙◌, subst}
 use Rattle.engine.specs.State.{state}
 use Rattle.claims.specs.Claims.{after}
 use Rattle.firmware.specs.Readings.{Ready}

@@ -1,6 +1,6 @@
-use Rattle.std.proofs.Common.{◌≡◌, ℕ, ◌+◌, ◌-◌, sym, subst, arith}
+use Rattle.std.proofs.Common.{◌≡◌, ◌+◌, ◌-◌, sym, subst, arith}
 use Rattle.claims.specs.Awaits.{Awaited}
-use Rattle.firmware.proofs.Watching.{Watching, goes_none, watched_end, watched_on, watched_all}
+use Rattle.firmware.proofs.Watching.{goes_none, watched_end, watched_on, watched_all}
 use Rattle.firmware.proofs.readings.watch.Goals as goal
 
 pub loop-n-init : goal.loop-n-init

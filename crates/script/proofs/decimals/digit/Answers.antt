@@ -1,4 +1,4 @@
-use Rattle.std.proofs.Common.{ℕ, ◌<◌, sym, subst, arith}
+use Rattle.std.proofs.Common.{arith}
 use Rattle.script.proofs.Numerals.{ten_pos}
 use Rattle.script.proofs.decimals.digit.Goals as goal
 

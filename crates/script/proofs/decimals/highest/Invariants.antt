@@ -1,4 +1,4 @@
-use Rattle.std.proofs.Common.{◌+◌, ◌^◌, ◌<◌, ◌≤◌}
+use Rattle.std.proofs.Common.{◌+◌, ◌^◌, ◌<◌}
 use Rattle.script.proofs.decimals.highest.Given as goal
 
 -- the number has no digit above this place

@@ -1,4 +1,4 @@
-use Rattle.std.proofs.Common.{◌≡◌, ℕ, ◌+◌, ◌-◌, ◌<◌, ◌++◌, vec_items, decimal, sym, ap, ◌∙◌, subst, arith}
+use Rattle.std.proofs.Common.{◌≡◌, ℕ, ◌+◌, ◌-◌, ◌++◌, vec_items, decimal, ap, ◌∙◌, arith}
 use Rattle.script.proofs.Numerals.{turn, low, start, whole}
 use Rattle.script.proofs.decimals.print_number.Goals as goal
 
