@@ -2,10 +2,10 @@
 
 #![tactic(auto)]
 
-ghost use Rattle.std.specs.List.{AllByRecursion as All};
+ghost use Rattle.std.specs.List.{AllByRecursion};
 ghost use Rattle.examples.specs.Examples.{Holds, examples};
 
 /// Every example of the table holds. The function does nothing: its contract is the theorem.
 pub fn examples_hold()
-    ensures { All Holds examples }
+    ensures { AllByRecursion Holds examples }
 {}

@@ -1,7 +1,7 @@
 -- What is written is read, and what is read was written.
 use Rattle.std.proofs.Common.{◌≡◌, ℕ, zero, suc, ◌+◌, ◌-◌, ◌*◌, ◌<◌, ◌≤◌, Bool, true, false, cond, eqb, leb, List, [], ◌∷◌, ◌++◌, length, get_or, drop, Ok, Err, Result, sym, refl, ap, ◌∙◌, subst, ⊎_elim, append_assoc, add-zero, arith, length-append}
 use Rattle.std.specs.Char.{is_ascii_digit}
-use Rattle.std.specs.List.{AllByRecursion as All}
+use Rattle.std.specs.List.{AllByRecursion}
 use Rattle.std.proofs.lemmas.List.{drop_more, drop-drop, drop_at, length-drop}
 use Rattle.std.proofs.lemmas.Bool.{cond-true, cond-false, eq-eqb, eqb-true, le-leb, lt-leb, leb-true, leb-false, and_from, and_parts, cases_Bool}
 use Rattle.text.specs.declared.numbers.Malformed.{Malformed}
@@ -45,7 +45,7 @@ digits_stop v k n [] o = refl
 digits_stop v zero n (b ∷ bs) o = cond-false _ _ _ o
 digits_stop v (suc k) n (b ∷ bs) o = cond-false _ _ _ o
 
-digits_written : (ds : List ℕ) (v k n : ℕ) (rest : List ℕ) → All Digit ds → length ds ≤ k → Other rest → digits v k n (ds ++ rest) ≡ Ok (written v ds, n + length ds)
+digits_written : (ds : List ℕ) (v k n : ℕ) (rest : List ℕ) → AllByRecursion Digit ds → length ds ≤ k → Other rest → digits v k n (ds ++ rest) ≡ Ok (written v ds, n + length ds)
 digits_written [] v k n rest a l o = digits_stop v k n rest o ∙ ap (λ m. Ok (v, m)) (sym (add-zero n))
 digits_written (d ∷ ds) v zero n rest a l o = absurd (omega arith)
 digits_written (d ∷ ds) v (suc k) n rest a l o =
@@ -64,7 +64,7 @@ record Was (v k n : ℕ) (bs : List ℕ) (w m : ℕ) : Type 0 where
   ds : List ℕ
   rest : List ℕ
   split : bs ≡ ds ++ rest
-  digits : All Digit ds
+  digits : AllByRecursion Digit ds
   value : written v ds ≡ w
   few : length ds ≤ k
   place : n + length ds ≡ m

@@ -1,6 +1,6 @@
 -- How numbers and lines are written: the bytes that say them.
 use Rattle.std.specs.Prelude.{◌≡◌, ℕ, ◌+◌, ◌-◌, ◌*◌, ◌≤◌, List, [], ◌∷◌, ◌++◌, length, fold}
-use Rattle.std.specs.List.{AllByRecursion as All}
+use Rattle.std.specs.List.{AllByRecursion}
 
 abbrev pub Digit : ℕ → Type 0
 Digit b = (48 ≤ b) × (b ≤ 57)
@@ -11,7 +11,7 @@ written v ds = fold (λ a b. a * 10 + (b - 48)) v ds
 
 -- ds writes v in 1 to k decimal digits
 pub record Numeral (k v : ℕ) (ds : List ℕ) : Type 0 where
-  pub digits : All Digit ds
+  pub digits : AllByRecursion Digit ds
   pub value : written 0 ds ≡ v
   pub some : 1 ≤ length ds
   pub few : length ds ≤ k
