@@ -18,10 +18,10 @@ open_in s i z h hi hz hz' = grind (arith, nat_tests)
 feed_in : (k : Bool) (m : Meaning) (s : ℕ) → s ≤ 31 → (entry_at m s).written < (entry_at m s).size → (not k && other_half m s) ≡ false → why_feed k m s ≡ None
 feed_in k m s h w o = grind (arith, nat_tests)
 
-pub moves : {A : Type 0} (w : Option Refusal) (m n : A) → w ≡ None → unless w m n ≡ n
+moves : {A : Type 0} (w : Option Refusal) (m n : A) → w ≡ None → unless w m n ≡ n
 moves w m n e = rw e refl
 
-pub accepted : {A : Type 0} (w : Option Refusal) (a : A) → w ≡ None → judged w a ≡ Ok a
+accepted : {A : Type 0} (w : Option Refusal) (a : A) → w ≡ None → judged w a ≡ Ok a
 accepted w a e = rw e refl
 
 pub open_is : (m : Meaning) (s i z : ℕ) → s ≤ 31 → i ≤ 31 → 1 ≤ z → z ≤ 1000000 → open_after m s i z ≡ with_entry m s (opened (entry_at m s) i z)

@@ -2,7 +2,7 @@
 use Rattle.std.specs.Prelude.{◌≡◌, ℕ, zero, suc, ◌<◌, ◌≤◌, true, false, ◌≢◌, List, [], ◌∷◌, length, set, ◌==◌, nat_eq, slice_index, slice_index_or, slice_set, refl}
 use Rattle.std.specs.List.{list_all, list_any, range_with_len}
 use Rattle.std.proofs.Common.{zero-le, suc-le-suc, ⊎_elim, sym, ap, ◌∙◌, eqb, arith, length-set}
-use Rattle.std.proofs.lemmas.List.{get_or-set_same, get_or-set_other}
+use Rattle.std.proofs.lemmas.List.{same_lists, get_or_default, get_or-set_same, get_or-set_other}
 use Rattle.std.proofs.lemmas.List.Folds.{list_any_at}
 use Rattle.std.proofs.lemmas.List.FromFn.{get_or-range_with_len, length-range_with_len}
 use Rattle.std.proofs.lemmas.List.Recursion.{and_at, and_from_places}
@@ -23,6 +23,12 @@ at_holds xs k x h e = list_any_at (λ y. y == x) xs k 0 h (eq-eqb (slice_index x
 
 at_range : (n x : ℕ) → x < n → slice_index (range_with_len 0 n) x ≡ x
 at_range n x h = let r = get_or-range_with_len 0 n x 0 h in omega (arith, r)
+
+pub counted : (xs : List ℕ) (n : ℕ) → length xs ≡ n → ((x : ℕ) → x < n → slice_index xs x ≡ x) → xs ≡ range_with_len 0 n
+counted xs n l f =
+    same_lists xs (range_with_len 0 n) (l ∙ sym (length-range_with_len 0 n))
+    (λ k d b. let h : k < n = omega (arith, l) in
+    get_or_default xs k d 0 b ∙ f k h ∙ (let r = get_or-range_with_len 0 n k d h in omega (arith, r)))
 
 pub covers_each : (xs : List ℕ) (n x : ℕ) → covers xs n ≡ true → x < n → holds xs x ≡ true
 unfolding covers

@@ -1,10 +1,10 @@
 -- What a port remembers of its slots.
-use Rattle.std.specs.Prelude.{◌≡◌, ℕ, ◌<◌, Bool, true, false, cond, not, ◌&&◌, List, map, length, Some, None, Option, slice_index_or}
+use Rattle.std.specs.Prelude.{◌≡◌, ℕ, ◌<◌, Bool, true, false, cond, not, ◌&&◌, List, map, length, Some, None, Option, Result, slice_index_or, slice_set}
 use Rattle.std.specs.List.{range_with_len}
 use Rattle.ports.specs.declared.answers.Refusal.{Refusal}
 use Rattle.ports.specs.declared.answers.Refusal.TheVariants.{OtherHalfWritten}
 use Rattle.ports.specs.Meaning.{Entry, nothing, half, Fine}
-use Rattle.ports.specs.Calls.{other_below}
+use Rattle.ports.specs.Calls.{judged, unless, other_below}
 
 -- the entries of the 32 slots
 unfoldable pub each_slot : (ℕ → Entry) → List Entry
@@ -17,6 +17,12 @@ must_wait interruptible es s = not interruptible && other_below es s 32
 -- putting entry e at slot s: refused where it is half written and has to wait
 abbrev pub why_put : Bool → List Entry → ℕ → Entry → Option Refusal
 why_put interruptible es s e = cond (half e && must_wait interruptible es s) (Some OtherHalfWritten) None
+
+abbrev pub put_answer : Bool → List Entry → ℕ → Entry → Result (Unit {0}) Refusal
+put_answer interruptible es s e = judged (why_put interruptible es s e) tt
+
+abbrev pub put_after : Bool → List Entry → ℕ → Entry → List Entry
+put_after interruptible es s e = unless (why_put interruptible es s e) es (slice_set es s e)
 
 -- what every memory keeps: 32 entries within their bounds, and none that is half written has to wait
 pub record Kept (interruptible : Bool) (es : List Entry) : Type 0 where

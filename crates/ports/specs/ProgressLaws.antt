@@ -4,9 +4,9 @@ use Rattle.std.proofs.Common.{sym, ap, subst, ◌∙◌, arith}
 use Rattle.std.proofs.lemmas.List.{get_or-set_same, get_or-set_other, get_or-replicate}
 use Rattle.std.proofs.Math.Bool.{and-false}
 use Rattle.ports.specs.declared.progress.Progress.{Progress}
-use Rattle.ports.specs.Calls.{fresh_entry, unless}
+use Rattle.ports.specs.Calls.{fresh_entry}
 use Rattle.ports.specs.Meaning.{Fine, half, nothing}
-use Rattle.ports.specs.Memories.{each_slot, why_put, Kept}
+use Rattle.ports.specs.Memories.{each_slot, put_after, Kept}
 use Rattle.ports.specs.MemoryLaws.{length_each, each_here, each_put, each_same}
 use Rattle.ports.specs.Progresses.{fresh, progress_entry, progress_entries}
 
@@ -17,7 +17,7 @@ entries_put ps s p l h =
     (λ k n. ap (λ (q : Progress). progress_entry q k) (get_or-set_other ps s k p fresh n))
 
 pub progress_put : (ps : List Progress) (s : ℕ) (p : Progress) → length ps ≡ 32 → s ≤ 31 →
-    progress_entries (slice_set ps s p) ≡ unless (why_put true (progress_entries ps) s (progress_entry p s)) (progress_entries ps) (slice_set (progress_entries ps) s (progress_entry p s))
+    progress_entries (slice_set ps s p) ≡ put_after true (progress_entries ps) s (progress_entry p s)
 progress_put ps s p l h = entries_put ps s p l h ∙ rw (and-false (half (progress_entry p s))) refl
 
 pub progress_fine : (p : Progress) (k : ℕ) → k ≤ 31 → Fine (progress_entry p k)

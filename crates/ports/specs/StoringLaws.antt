@@ -6,14 +6,13 @@ use Rattle.std.proofs.lemmas.Bool.{cases_eq, cases_Bool, eq-eqb, ne_eqb, eqb-tru
 use Rattle.ports.specs.declared.progress.Progress.{Progress}
 use Rattle.ports.specs.declared.stored.Stored.{Stored}
 use Rattle.ports.specs.declared.stored.Begun.{Begun}
-use Rattle.ports.specs.declared.answers.Refusal.TheVariants.{OtherHalfWritten}
-use Rattle.ports.specs.Calls.{fresh_entry, unless}
+use Rattle.ports.specs.Calls.{fresh_entry}
 use Rattle.ports.specs.Meaning.{Entry, nothing, half, Fine}
-use Rattle.ports.specs.Memories.{each_slot, must_wait, why_put, Kept}
+use Rattle.ports.specs.Memories.{each_slot, must_wait, put_after, Kept}
 use Rattle.ports.specs.MemoryLaws.{length_each, each_here, each_put, each_same}
 use Rattle.ports.specs.Progresses.{progress_entry}
 use Rattle.ports.specs.Storing.{vacant, IsStored, written_at, waits, stored_entry, stored_entries, Current}
-use Rattle.ports.specs.CallLaws.{moves, other_decides, none_below}
+use Rattle.ports.specs.CallLaws.{other_decides, none_below}
 
 pub stored_here : (xs : List Stored) (b : Option Begun) (s : ℕ) → s ≤ 31 → slice_index_or (stored_entries xs b) s nothing ≡ stored_entry (slice_index_or xs s vacant) (written_at b s) s
 stored_here xs b s h = each_here (λ k. stored_entry (slice_index_or xs k vacant) (written_at b k) k) s nothing h
@@ -104,19 +103,6 @@ half_or_none p s d =
     rw (and_from (nat_lt 0 p.written) (nat_lt p.written p.size) (lt-ltb 0 p.written (omega arith)) (lt-ltb p.written p.size (omega (arith, p.in_size, d)))) refl)
     (cases_eq p.written 0)
 
--- whether putting is refused
-why_is : (xs : List Stored) (b : Option Begun) (s : ℕ) (p : Progress) → Current xs b →
-    why_put false (stored_entries xs b) s (progress_entry p s) ≡ cond (half (progress_entry p s) && waits b s) (Some OtherHalfWritten) None
-why_is xs b s p cur = ap (λ w. cond (half (progress_entry p s) && w) (Some OtherHalfWritten) None) (sym (waits_is xs b s cur))
-
-pub put_free : (xs : List Stored) (b : Option Begun) (s : ℕ) (p : Progress) → Current xs b → (half (progress_entry p s) && waits b s) ≡ false →
-    why_put false (stored_entries xs b) s (progress_entry p s) ≡ None
-put_free xs b s p cur w = why_is xs b s p cur ∙ rw w refl
-
-pub put_waits : (xs : List Stored) (b : Option Begun) (s : ℕ) (p : Progress) → Current xs b → half (progress_entry p s) ≡ true → waits b s ≡ true →
-    why_put false (stored_entries xs b) s (progress_entry p s) ≡ Some OtherHalfWritten
-put_waits xs b s p cur e w = why_is xs b s p cur ∙ rw (e, w) refl
-
 module _ (xs : List Stored) (b b' : Option Begun) (s : ℕ) (p : Progress) (x : Stored) (l : length xs ≡ 32) (h : s ≤ 31) (i : IsStored p x) (f : (k : ℕ) → k ≢ s → written_at b' k ≡ written_at b k) (g : written_at b' s ≡ cond (half (progress_entry p s)) p.written 0) where
   entries_put : stored_entries (slice_set xs s x) b' ≡ slice_set (stored_entries xs b) s (progress_entry p s)
   entries_put =
@@ -144,6 +130,6 @@ module _ (xs : List Stored) (b b' : Option Begun) (s : ℕ) (p : Progress) (x : 
       subst (λ (y : Stored). (y.whole ≡ false) × (written_at b' k < y.size)) (sym (get_or-set_other xs s k x vacant d)) (rw (f k d) (cur k r (subst (λ n. 0 < n) (f k d) w))))
       (cases_eq k s)
 
-  pub put_stored : Current xs b → (half (progress_entry p s) && waits b s) ≡ false →
-      stored_entries (slice_set xs s x) b' ≡ unless (why_put false (stored_entries xs b) s (progress_entry p s)) (stored_entries xs b) (slice_set (stored_entries xs b) s (progress_entry p s))
-  put_stored cur w = entries_put ∙ sym (moves _ _ _ (put_free xs b s p cur w))
+  pub put_stored : (half (progress_entry p s) && must_wait false (stored_entries xs b) s) ≡ false →
+      stored_entries (slice_set xs s x) b' ≡ put_after false (stored_entries xs b) s (progress_entry p s)
+  put_stored w = entries_put ∙ rw w refl

@@ -1,9 +1,9 @@
 //! What a port remembers of its slots.
 
-ghost use Rattle.std.specs.Prelude.{◌≡◌, Bool, List, slice_index_or, slice_set};
-ghost use Rattle.ports.specs.Calls.{fresh_entry, judged, unless};
+ghost use Rattle.std.specs.Prelude.{◌≡◌, Bool, List, slice_index_or};
+ghost use Rattle.ports.specs.Calls.{fresh_entry};
 ghost use Rattle.ports.specs.Meaning.{Entry, nothing};
-ghost use Rattle.ports.specs.Memories.{Kept, each_slot, must_wait, why_put};
+ghost use Rattle.ports.specs.Memories.{Kept, each_slot, must_wait, put_answer, put_after};
 ghost use Rattle.ports.specs.Progresses.{progress_entry};
 
 use crate::answers::Refusal;
@@ -33,10 +33,8 @@ pub trait Memory: Sized {
 
     /// Replaces what is known of a slot. Refused where it would be one half written slot too many.
     fn put(&mut self, slot: Slot, progress: Progress) -> Result<(), Refusal>
-        ensures answer { result ≡ judged (why_put INTERRUPTIBLE (entries self.old) slot.number (progress_entry progress slot.number)) tt }
-        ensures after { entries self.new
-            ≡ unless (why_put INTERRUPTIBLE (entries self.old) slot.number (progress_entry progress slot.number)) (entries self.old)
-            (slice_set (entries self.old) slot.number (progress_entry progress slot.number)) };
+        ensures answer { result ≡ put_answer INTERRUPTIBLE (entries self.old) slot.number (progress_entry progress slot.number) }
+        ensures after { entries self.new ≡ put_after INTERRUPTIBLE (entries self.old) slot.number (progress_entry progress slot.number) };
 
     ghost kept: { (m : Self) → Kept INTERRUPTIBLE (entries m) };
 }

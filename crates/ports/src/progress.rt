@@ -1,6 +1,6 @@
 //! How far the writing of one slot has come.
 
-ghost use Rattle.std.specs.Prelude.{◌≡◌, ◌<◌, ◌≤◌, ◌-◌, ℕ};
+ghost use Rattle.std.specs.Prelude.{◌&&◌, nat_lt, ◌≡◌, ◌<◌, ◌≤◌, ◌-◌, ℕ};
 ghost use Rattle.ports.specs.Meaning.{block_of};
 
 use crate::answers::Fed;
@@ -37,7 +37,6 @@ impl Default for Progress {
 
 impl Progress {
     ghost use Rattle.ports.specs.Calls.{hit, fed, fed_entry};
-    ghost use Rattle.ports.specs.Meaning.{half};
     ghost use Rattle.ports.specs.Progresses.{progress_entry};
 
     /// The blocks that are not yet written.
@@ -49,7 +48,7 @@ impl Progress {
 
     /// Whether some blocks are written, and not all.
     pub(crate) fn is_half_written(self) -> bool
-        ensures { result ≡ half (progress_entry self 0) }
+        ensures { result ≡ (nat_lt 0 self.written && nat_lt self.written self.size) }
     {
         self.written > 0 && self.written < self.size
     }

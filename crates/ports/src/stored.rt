@@ -53,7 +53,7 @@ impl Stored {
     ghost use Rattle.ports.specs.Storing.{stored_entry};
 
     /// The progress of a slot of which `written` blocks are written, unless it is whole.
-    pub fn progress(self, written: u32) -> Progress
+    pub(crate) fn progress(self, written: u32) -> Progress
         requires { written ≤ self.size }
         ensures { (k : ℕ) → progress_entry result k ≡ stored_entry self written k }
     {

@@ -31,17 +31,9 @@ impl OneSlot {
         ensures { result ≡ written_at self.now.begun slot.number }
     {
         match self.begun {
-            Some(begun) if begun.slot.number == slot.number => begun.written,
+            Some(begun) if begun.slot == slot => begun.written,
             _ => 0,
         }
-    }
-
-    /// Whether the half written slot is another one.
-    fn waits(&self, slot: Slot) -> bool
-        ensures { result ≡ waits self.now.begun slot.number }
-    {
-        self.begun
-            .is_some_and(|begun| begun.slot.number != slot.number)
     }
 
     /// What is begun once a slot has this progress.
@@ -56,7 +48,7 @@ impl OneSlot {
                 written: progress.written,
             })
         } else {
-            self.begun.filter(|begun| begun.slot.number != slot.number)
+            self.begun.filter(|begun| begun.slot != slot)
         }
     }
 }
@@ -82,11 +74,11 @@ impl Memory for OneSlot {
     }
 
     fn must_wait(&self, slot: Slot) -> bool {
-        self.waits(slot)
+        self.begun.is_some_and(|begun| begun.slot != slot)
     }
 
     fn put(&mut self, slot: Slot, progress: Progress) -> Result<(), Refusal> {
-        if progress.is_half_written() && self.waits(slot) {
+        if progress.is_half_written() && self.must_wait(slot) {
             return Err(Refusal::OtherHalfWritten);
         }
         self.begun = self.begun_after(slot, progress);

@@ -9,6 +9,7 @@ ghost use Rattle.std.specs.List.{range_with_len};
 use crate::answers::Refusal;
 use crate::slot::Slot;
 use crate::slot_map::SlotMap;
+use std::array;
 
 /// Whether each board slot stands at some place.
 fn has_all(places: &[u8; 32]) -> bool
@@ -22,9 +23,8 @@ impl SlotMap {
     pub fn identity() -> Self
         ensures { places_of result ≡ range_with_len 0 32 }
     {
-        // The numbers 0 to 31 as bytes, in order.
         SlotMap {
-            places: *b"\x00\x01\x02\x03\x04\x05\x06\x07\x08\x09\x0a\x0b\x0c\x0d\x0e\x0f\x10\x11\x12\x13\x14\x15\x16\x17\x18\x19\x1a\x1b\x1c\x1d\x1e\x1f",
+            places: array::from_fn(|place| place as u8),
         }
     }
 
