@@ -1,9 +1,13 @@
 -- A list of 32 that lacks no number below 32 has each exactly once.
-use Rattle.std.specs.Prelude.{◌≡◌, ℕ, zero, suc, ◌+◌, ◌<◌, ◌≤◌, true, false, cond, ◌≢◌, List, [], ◌∷◌, length, set, Decides, ◌==◌, nat_eq, slice_index, slice_index_or, slice_set, refl}
-use Rattle.std.proofs.Common.{zero-le, suc-le-suc, ⊎_elim, sym, ap, ◌∙◌, arith, length-set}
-use Rattle.std.proofs.lemmas.List.{get_or_default, get_or-set_same, get_or-set_other}
-use Rattle.std.proofs.lemmas.Bool.{cases_eq, cases_lt, cases_Bool, eqb-true, eq-eqb, and_parts, and_from, or_cases, or_left, or_right, both_ways}
-use Rattle.std.specs.List.{ContainsAt as Has}
+use Rattle.std.specs.Prelude.{◌≡◌, ℕ, zero, suc, ◌<◌, ◌≤◌, true, false, ◌≢◌, List, [], ◌∷◌, length, set, ◌==◌, nat_eq, slice_index, slice_index_or, slice_set, refl}
+use Rattle.std.specs.List.{list_all, list_any, range_with_len}
+use Rattle.std.proofs.Common.{zero-le, suc-le-suc, ⊎_elim, sym, ap, ◌∙◌, eqb, arith, length-set}
+use Rattle.std.proofs.lemmas.List.{same_lists, get_or_default, get_or-set_same, get_or-set_other}
+use Rattle.std.proofs.lemmas.List.Folds.{list_any_at}
+use Rattle.std.proofs.lemmas.List.FromFn.{get_or-range_with_len, length-range_with_len}
+use Rattle.std.proofs.lemmas.List.Recursion.{and_at, and_from_places}
+use Rattle.std.proofs.lemmas.Map.Steps.{le-length_from_below}
+use Rattle.std.proofs.lemmas.Bool.{cases_eq, cases_lt, eqb-true, eq-eqb, or_cases, both_ways}
 use Rattle.ports.specs.Maps.{holds, covers, exchanged}
 
 pub holds_at : (xs : List ℕ) (x : ℕ) → holds xs x ≡ true → (k : ℕ) × (k < length xs) × (slice_index xs k ≡ x)
@@ -15,60 +19,32 @@ holds_at (y ∷ ys) x e =
     (or_cases (y == x) (holds ys x) e)
 
 at_holds : (xs : List ℕ) (k x : ℕ) → k < length xs → slice_index xs k ≡ x → holds xs x ≡ true
-at_holds [] k x h e = absurd (omega arith)
-at_holds (y ∷ ys) zero x h e = or_left (y == x) (holds ys x) (eq-eqb y x e)
-at_holds (y ∷ ys) (suc k) x h e = or_right (y == x) (holds ys x) (at_holds ys k x (omega arith) e)
+at_holds xs k x h e = list_any_at (λ y. y == x) xs k 0 h (eq-eqb (slice_index xs k) x e)
+
+at_range : (n x : ℕ) → x < n → slice_index (range_with_len 0 n) x ≡ x
+at_range n x h = let r = get_or-range_with_len 0 n x 0 h in omega (arith, r)
+
+pub counted : (xs : List ℕ) (n : ℕ) → length xs ≡ n → ((x : ℕ) → x < n → slice_index xs x ≡ x) → xs ≡ range_with_len 0 n
+counted xs n l f =
+    same_lists xs (range_with_len 0 n) (l ∙ sym (length-range_with_len 0 n))
+    (λ k d b. let h : k < n = omega (arith, l) in
+    get_or_default xs k d 0 b ∙ f k h ∙ (let r = get_or-range_with_len 0 n k d h in omega (arith, r)))
 
 pub covers_each : (xs : List ℕ) (n x : ℕ) → covers xs n ≡ true → x < n → holds xs x ≡ true
 unfolding covers
-covers_each xs zero x e h = absurd (omega arith)
-covers_each xs (suc n) x e h =
-    let p = and_parts (holds xs n) (covers xs n) e in
-    ⊎_elim (λ (q : x ≡ n). rw q p.0) (λ (q : x ≢ n). covers_each xs n x p.1 (omega arith)) (cases_eq x n)
+covers_each xs n x e h =
+    let l : x < length (range_with_len 0 n) = omega (arith, length-range_with_len 0 n) in
+    ap (holds xs) (sym (at_range n x h)) ∙ and_at (list_all (holds xs)) (holds xs) refl (λ _ _. refl) (range_with_len 0 n) x 0 l e
 
 each_covers : (xs : List ℕ) (n : ℕ) → ((x : ℕ) → x < n → holds xs x ≡ true) → covers xs n ≡ true
 unfolding covers
-each_covers xs zero f = refl
-each_covers xs (suc n) f = and_from (holds xs n) (covers xs n) (f n (omega arith)) (each_covers xs n (λ x h. f x (omega arith)))
+each_covers xs n f =
+    and_from_places (list_all (holds xs)) (holds xs) refl (λ _ _. refl) (range_with_len 0 n) 0
+    (λ x l. let h : x < n = omega (arith, length-range_with_len 0 n) in ap (holds xs) (at_range n x h) ∙ f x h)
 
--- without the first x
-without : List ℕ → ℕ → List ℕ
-without [] x = []
-without (y ∷ ys) x = cond (y == x) ys (y ∷ without ys x)
-
-length_without : (xs : List ℕ) (x : ℕ) → holds xs x ≡ true → length (without xs x) + 1 ≡ length xs
-unfolding without
-length_without [] x e = absurd (both_ways false refl e)
-length_without (y ∷ ys) x e =
-    ⊎_elim
-    (λ (h : nat_eq y x ≡ true). rw h (omega arith))
-    (λ (h : nat_eq y x ≡ false). let i : holds ys x ≡ true = rw h at e in rw h (let r = length_without ys x i in omega (arith, r)))
-    (cases_Bool (y == x))
-
-holds_without : (xs : List ℕ) (x z : ℕ) → z ≢ x → holds xs z ≡ true → holds (without xs x) z ≡ true
-unfolding without
-holds_without [] x z d e = e
-holds_without (y ∷ ys) x z d e =
-    ⊎_elim
-    (λ (h : nat_eq y x ≡ true). rw h
-    (⊎_elim
-    (λ (q : nat_eq y z ≡ true). absurd (d (sym (eqb-true y z q) ∙ eqb-true y x h)))
-    (λ (q : holds ys z ≡ true). q)
-    (or_cases (y == z) (holds ys z) e)))
-    (λ (h : nat_eq y x ≡ false). rw h
-    (⊎_elim
-    (λ (q : nat_eq y z ≡ true). or_left (y == z) (holds (without ys x) z) q)
-    (λ (q : holds ys z ≡ true). or_right (y == z) (holds (without ys x) z) (holds_without ys x z d q))
-    (or_cases (y == z) (holds ys z) e)))
-    (cases_Bool (y == x))
-
--- n numbers want n places
-room : (n : ℕ) (xs : List ℕ) → ((x : ℕ) → x < n → holds xs x ≡ true) → n ≤ length xs
-room zero xs f = zero-le
-room (suc n) xs f =
-    let r = room n (without xs n) (λ x h. holds_without xs n x (omega arith) (f x (omega arith))) in
-    let l = length_without xs n (f n (omega arith)) in
-    omega (arith, r, l)
+-- the test of the library's lemma, which has the number first
+stands : (xs : List ℕ) (k x : ℕ) → k < length xs → slice_index xs k ≡ x → list_any (eqb x) xs ≡ true
+stands xs k x h e = list_any_at (eqb x) xs k 0 h (eq-eqb x (slice_index xs k) (sym e))
 
 -- no place can be spared
 spared : (xs : List ℕ) (j : ℕ) → length xs ≡ 32 → j < 32 → ((x : ℕ) → x < 32 → (k : ℕ) × (k < 32) × (k ≢ j) × (slice_index xs k ≡ x)) → ⊥
@@ -76,10 +52,10 @@ spared xs j l h f =
     let ys : List ℕ = set xs j 32 in
     let n : length ys ≡ 32 = length-set xs j 32 ∙ l in
     let jn : j < length xs = omega arith in
-    let r : 33 ≤ length ys = room 33 ys (λ x b.
+    let r : 33 ≤ length ys = le-length_from_below ys 33 (λ x b.
     ⊎_elim
-    (λ (q : x < 32). let t = f x q in at_holds ys t.0 x (omega (arith, n, t.1)) (get_or-set_other xs j t.0 32 0 t.2 ∙ t.3))
-    (λ (q : 32 ≤ x). at_holds ys j x (omega (arith, n)) (get_or-set_same xs j 32 0 jn ∙ (let v : 32 ≡ x = omega arith in v)))
+    (λ (q : x < 32). let t = f x q in stands ys t.0 x (omega (arith, n, t.1)) (get_or-set_other xs j t.0 32 0 t.2 ∙ t.3))
+    (λ (q : 32 ≤ x). stands ys j x (omega (arith, n)) (get_or-set_same xs j 32 0 jn ∙ (let v : 32 ≡ x = omega arith in v)))
     (cases_lt x 32)) in
     omega (arith, r, n)
 
@@ -103,20 +79,6 @@ one_to_one xs i j l c hi hj e =
     (λ (q : t.0 ≢ j). (t.0, (let u : t.0 < 32 = omega (arith, t.1) in u), q, t.2))
     (cases_eq t.0 j))))
     (cases_eq i j)
-
-pub lacks : (xs : List ℕ) (n x : ℕ) → x < n → holds xs x ≡ false → covers xs n ≡ false
-lacks xs n x h e = ⊎_elim (λ (c : covers xs n ≡ true). absurd (both_ways (holds xs x) e (covers_each xs n x c h))) (λ (c : covers xs n ≡ false). c) (cases_Bool (covers xs n))
-
-pub covers_none : (xs : List ℕ) → covers xs 0 ≡ true
-unfolding covers
-covers_none xs = refl
-
-pub covers_more : (xs : List ℕ) (n : ℕ) → covers xs n ≡ true → holds xs n ≡ true → covers xs (n + 1) ≡ true
-covers_more xs n c h = each_covers xs (n + 1) (λ x b. ⊎_elim (λ (q : x ≡ n). rw q h) (λ (q : x ≢ n). covers_each xs n x c (omega arith)) (cases_eq x n))
-
-pub holds_decides : (xs : List ℕ) (x : ℕ) → Decides (holds xs x) (Has xs x)
-holds_decides xs x =
-    ((λ e. let t = holds_at xs x e in (t.0, t.1, λ d. get_or_default xs t.0 d 0 t.1 ∙ t.2)), (λ h. at_holds xs h.0 x h.1 (h.2 0)))
 
 pub exchanged_length : (xs : List ℕ) (a b : ℕ) → length (exchanged xs a b) ≡ length xs
 exchanged_length xs a b = length-set (slice_set xs a (slice_index xs b)) b (slice_index xs a) ∙ length-set xs a (slice_index xs b)

@@ -1,19 +1,13 @@
 -- What each port and each map means.
 use Rattle.std.specs.Prelude.{ℕ, List}
-use Rattle.ports.specs.declared.interruptible.Interruptible.{Interruptible}
+use Rattle.ports.specs.declared.delivered.Delivered.{Delivered}
 use Rattle.ports.specs.declared.renumbered.Renumbered.{Renumbered}
 use Rattle.ports.specs.declared.slot_map.SlotMap.{SlotMap}
-use Rattle.ports.specs.declared.uninterruptible.Uninterruptible.{Uninterruptible}
 use Rattle.ports.specs.Layers.{renumbered}
-use Rattle.ports.specs.Meaning.{Meaning}
-use Rattle.ports.specs.Progresses.{of_progresses}
-use Rattle.ports.specs.Storing.{of_stored}
+use Rattle.ports.specs.Meaning.{Entry, Meaning}
 
-abbrev pub interruptible_meaning : Interruptible → Meaning
-interruptible_meaning p = of_progresses p.rate p.slots
-
-abbrev pub uninterruptible_meaning : Uninterruptible → Meaning
-uninterruptible_meaning p = of_stored p.rate p.slots p.current p.written
+abbrev pub delivered_meaning : {M : Type 0} → (M → List Entry) → Delivered M → Meaning
+delivered_meaning entries p = record { rate = p.rate; entries = entries p.memory }
 
 -- at each slot above, the slot below
 abbrev pub places_of : SlotMap → List ℕ

@@ -1,169 +1,135 @@
 -- The entries that stand for what is stored of 32 slots and one slot's progress.
-use Rattle.std.specs.Prelude.{◌≡◌, ℕ, ◌<◌, ◌≤◌, true, false, cond, ◌&&◌, ◌≢◌, List, length, get_or, replicate, ◌==◌, nat_lt, slice_index_or, slice_set, refl}
-use Rattle.std.proofs.Common.{⊎_elim, sym, ap, subst, ◌∙◌, le_refl, arith, lit≤, length-set}
-use Rattle.std.proofs.lemmas.List.FromFn.{length-map-range_with_len, get_or-map-range_with_len}
-use Rattle.std.proofs.lemmas.List.{same_lists, get_or-set_same, get_or-set_other, get_or-replicate}
-use Rattle.std.proofs.lemmas.Bool.{cases_eq, eq-eqb, ne_eqb, and_right, and_from, lt-ltb, le-ltb}
+use Rattle.std.specs.Prelude.{◌≡◌, ℕ, ◌<◌, ◌≤◌, true, false, cond, ◌&&◌, ◌≢◌, List, length, replicate, Some, None, Option, nat_lt, slice_index_or, slice_set, refl}
+use Rattle.std.proofs.Common.{⊎_elim, sym, ap, subst, ◌∙◌, le_refl, arith}
+use Rattle.std.proofs.lemmas.List.{get_or-set_same, get_or-set_other, get_or-replicate}
+use Rattle.std.proofs.lemmas.Bool.{cases_eq, cases_Bool, eq-eqb, ne_eqb, eqb-true, not-false, and_right, and_from, and_parts, lt-ltb, ltb-true, le-ltb, both_ways}
 use Rattle.ports.specs.declared.progress.Progress.{Progress}
 use Rattle.ports.specs.declared.stored.Stored.{Stored}
-use Rattle.ports.specs.Calls.{new_port, with_entry, other_half}
-use Rattle.ports.specs.Meaning.{Entry, nothing, entry_at, half, Fine, Sound}
+use Rattle.ports.specs.declared.stored.Begun.{Begun}
+use Rattle.ports.specs.Calls.{fresh_entry}
+use Rattle.ports.specs.Meaning.{Entry, nothing, half, Fine}
+use Rattle.ports.specs.Memories.{each_slot, must_wait, put_after, Kept}
+use Rattle.ports.specs.MemoryLaws.{length_each, each_here, each_put, each_same}
 use Rattle.ports.specs.Progresses.{progress_entry}
-use Rattle.ports.specs.Storing.{vacant, progress_at, stored_entry, stored_entries, of_stored, StoredFits, AllStored, Current}
-use Rattle.ports.specs.CallLaws.{other_decides, no_other}
+use Rattle.ports.specs.Storing.{vacant, IsStored, written_at, waits, stored_entry, stored_entries, Current}
+use Rattle.ports.specs.CallLaws.{other_decides, none_below}
 
-length_stored : (xs : List Stored) (c w : ℕ) → length (stored_entries xs c w) ≡ 32
-unfolding stored_entries
-length_stored xs c w = length-map-range_with_len (λ k. stored_entry (slice_index_or xs k vacant) (progress_at c w k) k) 0 32
-
-stored_here : (xs : List Stored) (c w s : ℕ) (d : Entry) → s ≤ 31 → slice_index_or (stored_entries xs c w) s d ≡ stored_entry (slice_index_or xs s vacant) (progress_at c w s) s
-unfolding stored_entries
-stored_here xs c w s d h = get_or-map-range_with_len (λ k. stored_entry (slice_index_or xs k vacant) (progress_at c w k) k) 0 32 s s d (omega arith) (omega arith)
-
--- the entry of a slot of which n blocks are written
-pub stored_means : (rate : ℕ) (xs : List Stored) (c w s n : ℕ) → s ≤ 31 → cond (get_or xs s vacant).whole (get_or xs s vacant).size (progress_at c w s) ≡ n →
-    entry_at (of_stored rate xs c w) s ≡ record { image = (get_or xs s vacant).image; size = (get_or xs s vacant).size; written = n; flaw = (get_or xs s vacant).flaw; board = s }
-stored_means rate xs c w s n h e =
-    stored_here xs c w s nothing h ∙ ap (λ v. record { image = (get_or xs s vacant).image; size = (get_or xs s vacant).size; written = v; flaw = (get_or xs s vacant).flaw; board = s }) e
-
--- which slots have progress
-pub at_here : (c w s : ℕ) → s ≡ c → progress_at c w s ≡ w
-at_here c w s e = rw (eq-eqb s c e) refl
-
-pub at_other : (c w s : ℕ) → (s ≢ c) → progress_at c w s ≡ 0
-at_other c w s d = rw (ne_eqb s c d) refl
-
-at_idle : (c w k : ℕ) → (0 < w → k ≢ c) → progress_at c w k ≡ 0
-at_idle c w k f =
-    ⊎_elim
-    (λ (q : k ≡ c). ⊎_elim (λ (z : w ≡ 0). at_here c w k q ∙ z) (λ (z : w ≢ 0). absurd (f (omega arith) q)) (cases_eq w 0))
-    (λ (q : k ≢ c). at_other c w k q)
-    (cases_eq k c)
-
--- slot s changes, and the progress of no other slot
-stored_with : (rate : ℕ) (xs : List Stored) (c w c' w' s : ℕ) (x : Stored) (e : Entry) → length xs ≡ 32 → s ≤ 31 →
-    ((k : ℕ) → k ≢ s → progress_at c' w' k ≡ progress_at c w k) → stored_entry x (progress_at c' w' s) s ≡ e →
-    of_stored rate (slice_set xs s x) c' w' ≡ with_entry (of_stored rate xs c w) s e
-stored_with rate xs c w c' w' s x e l h f q =
-    ap (λ (es : List Entry). record { rate = rate; entries = es })
-    (same_lists (stored_entries (slice_set xs s x) c' w') (slice_set (stored_entries xs c w) s e)
-    (length_stored (slice_set xs s x) c' w' ∙ sym (length-set (stored_entries xs c w) s e ∙ length_stored xs c w))
-    (λ k d b. let b' : k ≤ 31 = omega (arith, length_stored (slice_set xs s x) c' w') in
-    stored_here (slice_set xs s x) c' w' k d b' ∙
-    ⊎_elim
-    (λ (t : k ≡ s). rw t
-    (let i : s < length xs = omega arith in
-    let j : s < length (stored_entries xs c w) = omega (arith, length_stored xs c w) in
-    ap (λ (y : Stored). stored_entry y (progress_at c' w' s) s) (get_or-set_same xs s x vacant i) ∙ q ∙ sym (get_or-set_same (stored_entries xs c w) s e d j)))
-    (λ (t : k ≢ s).
-    ap (λ (y : Stored). stored_entry y (progress_at c' w' k) k) (get_or-set_other xs s k x vacant t)
-    ∙ ap (λ v. stored_entry (slice_index_or xs k vacant) v k) (f k t)
-    ∙ sym (get_or-set_other (stored_entries xs c w) s k e d t ∙ stored_here xs c w k d b'))
-    (cases_eq k s)))
-
--- what is stored of a slot whose progress is p
-abbrev pub stored_of : Progress → Stored
-stored_of p = record { image = p.image; size = p.size; whole = (p.written == p.size); flaw = p.flaw }
-
-stored_is : (p : Progress) (v s : ℕ) → (p.written ≢ p.size → v ≡ p.written) → stored_entry (stored_of p) v s ≡ progress_entry p s
-stored_is p v s f =
-    ⊎_elim
-    (λ (e : p.written ≡ p.size). rw (eq-eqb p.written p.size e) (ap (λ n. record { image = p.image; size = p.size; written = n; flaw = p.flaw; board = s }) (sym e)))
-    (λ (e : p.written ≢ p.size). rw (ne_eqb p.written p.size e) (ap (λ n. record { image = p.image; size = p.size; written = n; flaw = p.flaw; board = s }) (f e)))
-    (cases_eq p.written p.size)
-
--- what is neither half written nor whole has nothing written
-idle : (p : Progress) → p.written ≤ p.size → (0 < p.written → p.size ≤ p.written) → p.written ≢ p.size → 0 ≡ p.written
-idle p up f d =
-    ⊎_elim
-    (λ (z : p.written ≡ 0). sym z)
-    (λ (z : p.written ≢ 0). absurd (d (let g = f (omega arith) in omega (arith, g))))
-    (cases_eq p.written 0)
-
-module _ (rate : ℕ) (xs : List Stored) (c w s : ℕ) (p : Progress) (l : length xs ≡ 32) (h : s ≤ 31) where
-  -- a slot that is left half written becomes the current one
-  pub put_half : (0 < w → c ≡ s) → of_stored rate (slice_set xs s (stored_of p)) s p.written ≡ with_entry (of_stored rate xs c w) s (progress_entry p s)
-  put_half f =
-      stored_with rate xs c w s p.written s (stored_of p) _ l h
-      (λ k d. at_other s p.written k d ∙ sym (at_idle c w k (λ q t. d (t ∙ f q))))
-      (stored_is p _ s (λ _. at_here s p.written s refl))
-
-  -- the current one loses its progress
-  pub put_current : p.written ≤ p.size → (0 < p.written → p.size ≤ p.written) → s ≡ c → of_stored rate (slice_set xs s (stored_of p)) c 0 ≡ with_entry (of_stored rate xs c w) s (progress_entry p s)
-  put_current up f e =
-      stored_with rate xs c w c 0 s (stored_of p) _ l h
-      (λ k d. let n : k ≡ c → ⊥ = λ q. d (q ∙ sym e) in at_other c 0 k n ∙ sym (at_other c w k n))
-      (stored_is p _ s (λ d. at_here c 0 s e ∙ idle p up f d))
-
-  -- the progress of the current one stays
-  pub put_other : p.written ≤ p.size → (0 < p.written → p.size ≤ p.written) → (s ≢ c) → of_stored rate (slice_set xs s (stored_of p)) c w ≡ with_entry (of_stored rate xs c w) s (progress_entry p s)
-  put_other up f n =
-      stored_with rate xs c w c w s (stored_of p) _ l h (λ k d. refl) (stored_is p _ s (λ d. at_other c w s n ∙ idle p up f d))
-
--- what the fields keep
-pub stored_put : (xs : List Stored) (s : ℕ) (x : Stored) → length xs ≡ 32 → s ≤ 31 → AllStored xs → StoredFits x → AllStored (slice_set xs s x)
-stored_put xs s x l h f q k b =
-    ⊎_elim
-    (λ (t : k ≡ s). rw t (let i : s < length xs = omega arith in subst StoredFits (sym (get_or-set_same xs s x vacant i)) q))
-    (λ (t : k ≢ s). subst StoredFits (sym (get_or-set_other xs s k x vacant t)) (f k b))
-    (cases_eq k s)
-
-pub current_put : (xs : List Stored) (s : ℕ) (p : Progress) → length xs ≡ 32 → s ≤ 31 → p.written < p.size → Current (slice_set xs s (stored_of p)) s p.written
-current_put xs s p l h lt =
-    let i : s < length xs = omega arith in
-    let e : stored_of p ≡ get_or (slice_set xs s (stored_of p)) s vacant = sym (get_or-set_same xs s (stored_of p) vacant i) in
-    (h, λ _. subst (λ (x : Stored). (x.whole ≡ false) × (p.written < x.size)) e (ne_eqb p.written p.size (λ q. omega arith), lt))
-
-pub current_stays : (xs : List Stored) (c w s : ℕ) (x : Stored) → (s ≢ c) → Current xs c w → Current (slice_set xs s x) c w
-current_stays xs c w s x d cur =
-    let e : get_or xs c vacant ≡ get_or (slice_set xs s x) c vacant = sym (get_or-set_other xs s c x vacant (λ t. d (sym t))) in
-    (cur.0, λ h. subst (λ (y : Stored). (y.whole ≡ false) × (w < y.size)) e (cur.1 h))
-
--- progress ends below the size of a slot that is not whole
-pub at_less : (xs : List Stored) (c w k : ℕ) → Current xs c w → progress_at c w k ≤ (get_or xs k vacant).size
-at_less xs c w k cur =
-    ⊎_elim
-    (λ (q : k ≡ c). rw (at_here c w k q) (⊎_elim (λ (z : w ≡ 0). omega arith) (λ (z : w ≢ 0). rw q (let r = cur.1 (omega arith) in omega (arith, r.1))) (cases_eq w 0)))
-    (λ (q : k ≢ c). rw (at_other c w k q) (omega arith))
-    (cases_eq k c)
-
-written_less : (x : Stored) (v : ℕ) → v ≤ x.size → cond x.whole x.size v ≤ x.size
-written_less x v h = elim x.whole as (λ b. cond b x.size v ≤ x.size) [ true ↦ le_refl x.size | false ↦ h ]
-
-pub stored_sound : (rate : ℕ) (xs : List Stored) (c w : ℕ) → 1 ≤ rate → rate ≤ 65535 → AllStored xs → Current xs c w → Sound (of_stored rate xs c w)
-stored_sound rate xs c w lo up fit cur = record {
-  slots = length_stored xs c w;
-  rate_low = lo;
-  rate_high = up;
-  fine = λ k b. let q : StoredFits (slice_index_or xs k vacant) = fit k b in
-      subst Fine (sym (stored_here xs c w k nothing (omega arith))) (record {
-        image_fits = q.0;
-        size_fits = q.1;
-        in_size = written_less (slice_index_or xs k vacant) (progress_at c w k) (at_less xs c w k cur);
-        flaw_fits = q.2;
-        board_fits = omega arith;
-      });
-}
+pub stored_here : (xs : List Stored) (b : Option Begun) (s : ℕ) → s ≤ 31 → slice_index_or (stored_entries xs b) s nothing ≡ stored_entry (slice_index_or xs s vacant) (written_at b s) s
+stored_here xs b s h = each_here (λ k. stored_entry (slice_index_or xs k vacant) (written_at b k) k) s nothing h
 
 -- without progress a slot is not half written
 still : (x : Stored) (k : ℕ) → half (stored_entry x 0 k) ≡ false
 still x k = elim x.whole as (λ b. (nat_lt 0 (cond b x.size 0) && nat_lt (cond b x.size 0) x.size) ≡ false) [ true ↦ and_right (nat_lt 0 x.size) (nat_lt x.size x.size) (le-ltb x.size x.size (le_refl x.size)) | false ↦ refl ]
 
-pub none_else : (rate : ℕ) (xs : List Stored) (c w s : ℕ) → (0 < w → c ≡ s) → other_half (of_stored rate xs c w) s ≡ false
-none_else rate xs c w s f =
-    no_other (of_stored rate xs c w) s
-    (λ t b d. ap half (stored_here xs c w t nothing (omega arith) ∙ ap (λ v. stored_entry (slice_index_or xs t vacant) v t) (at_idle c w t (λ q e. d (e ∙ f q)))) ∙ still (slice_index_or xs t vacant) t)
+-- a slot that waits for none: no other has progress
+pub no_progress : (b : Option Begun) (s k : ℕ) → waits b s ≡ false → k ≢ s → written_at b k ≡ 0
+no_progress None s k w d = refl
+no_progress (Some x) s k w d = rw (ne_eqb k x.slot.number (λ e. d (e ∙ eqb-true x.slot.number s (not-false _ w)))) refl
 
-pub one_else : (rate : ℕ) (xs : List Stored) (c w s : ℕ) → Current xs c w → 0 < w → (c ≢ s) → other_half (of_stored rate xs c w) s ≡ true
-one_else rate xs c w s cur h d =
-    let q = cur.1 h in
-    let e : entry_at (of_stored rate xs c w) c ≡ stored_entry (slice_index_or xs c vacant) w c = stored_here xs c w c nothing cur.0 ∙ ap (λ v. stored_entry (slice_index_or xs c vacant) v c) (at_here c w c refl) in
-    let t : half (stored_entry (slice_index_or xs c vacant) w c) ≡ true = rw q.0 (and_from (nat_lt 0 w) (nat_lt w (get_or xs c vacant).size) (lt-ltb 0 w h) (lt-ltb w (get_or xs c vacant).size q.1)) in
-    (other_decides (stored_entries xs c w) s 32).1 (c, (let b : c < 32 = omega (arith, cur.0) in b), (d, ap half e ∙ t))
+-- who waits
+pub waits_is : (xs : List Stored) (b : Option Begun) (s : ℕ) → Current xs b → waits b s ≡ must_wait false (stored_entries xs b) s
+waits_is xs None s cur =
+    sym (none_below (stored_entries xs None) s 32 (λ t l d. ap half (stored_here xs None t (omega arith)) ∙ still (slice_index_or xs t vacant) t))
+waits_is xs (Some x) s cur =
+    ⊎_elim
+    (λ (e : x.slot.number ≡ s).
+    rw (eq-eqb x.slot.number s e)
+    (sym (none_below (stored_entries xs (Some x)) s 32 (λ t l d.
+    ap half (stored_here xs (Some x) t (omega arith) ∙ ap (λ n. stored_entry (slice_index_or xs t vacant) n t) (no_progress (Some x) s t (rw (eq-eqb x.slot.number s e) refl) d)) ∙ still (slice_index_or xs t vacant) t))))
+    (λ (d : x.slot.number ≢ s).
+    let k = x.slot.number in
+    let at : written_at (Some x) k ≡ x.written = rw (eq-eqb k k refl) refl in
+    let l : k < 32 = omega (arith, x.slot.there) in
+    let q = cur k l (omega (arith, at, x.some)) in
+    let e : half (slice_index_or (stored_entries xs (Some x)) k nothing) ≡ true =
+    ap half (stored_here xs (Some x) k x.slot.there)
+    ∙ rw q.0 (and_from (nat_lt 0 (written_at (Some x) k)) (nat_lt (written_at (Some x) k) (slice_index_or xs k vacant).size) (lt-ltb 0 (written_at (Some x) k) (omega (arith, at, x.some))) (lt-ltb (written_at (Some x) k) (slice_index_or xs k vacant).size q.1)) in
+    rw (ne_eqb k s d) (sym ((other_decides (stored_entries xs (Some x)) s 32).1 (k, l, (d, e)))))
+    (cases_eq x.slot.number s)
 
-pub new_stored : AllStored (replicate 32 vacant)
-new_stored k b = subst StoredFits (sym (get_or-replicate 32 k vacant vacant b)) (lit≤ tt, lit≤ tt, lit≤ tt)
+-- what is stored stands for its progress
+pub stored_is : (p : Progress) (x : Stored) (n s : ℕ) → IsStored p x → (p.written ≢ p.size → n ≡ p.written) → stored_entry x n s ≡ progress_entry p s
+stored_is p x n s i f =
+    rw (i.image, i.size, i.whole, i.flaw)
+    (⊎_elim
+    (λ (e : p.written ≡ p.size). rw (eq-eqb p.written p.size e) (ap (λ m. record { image = p.image; size = p.size; written = m; flaw = p.flaw; board = s }) (sym e)))
+    (λ (d : p.written ≢ p.size). rw (ne_eqb p.written p.size d) (ap (λ m. record { image = p.image; size = p.size; written = m; flaw = p.flaw; board = s }) (f d)))
+    (cases_eq p.written p.size))
 
-pub new_means : (rate : ℕ) → of_stored rate (replicate 32 vacant) 0 0 ≡ new_port rate
-unfolding stored_entries new_port
-new_means rate = refl
+pub progress_fits : (x : Stored) (n : ℕ) → n ≤ x.size → cond x.whole x.size n ≤ x.size
+progress_fits x n h = elim x.whole as (λ b. cond b x.size n ≤ x.size) [ true ↦ le_refl x.size | false ↦ h ]
+
+-- progress ends below the size
+pub within : (xs : List Stored) (b : Option Begun) (k : ℕ) → Current xs b → k ≤ 31 → written_at b k ≤ (slice_index_or xs k vacant).size
+within xs b k cur h =
+    ⊎_elim
+    (λ (z : written_at b k ≡ 0). omega arith)
+    (λ (z : written_at b k ≢ 0). let q = cur k (omega arith) (omega arith) in omega (arith, q.1))
+    (cases_eq (written_at b k) 0)
+
+stored_fine : (x : Stored) (n k : ℕ) → n ≤ x.size → k ≤ 31 → Fine (stored_entry x n k)
+stored_fine x n k h l = record { image_fits = x.image_fits; size_fits = x.size_fits; in_size = progress_fits x n h; flaw_fits = x.flaw_fits; board_fits = l }
+
+-- what is half written waits for none
+half_alone : (b : Option Begun) (x : Stored) (k : ℕ) → half (stored_entry x (written_at b k) k) ≡ true → waits b k ≡ false
+half_alone None x k e = refl
+half_alone (Some y) x k e =
+    ⊎_elim
+    (λ (q : k ≡ y.slot.number). rw (eq-eqb y.slot.number k (sym q)) refl)
+    (λ (d : k ≢ y.slot.number). absurd (both_ways (half (stored_entry x (written_at (Some y) k) k)) (ap (λ n. half (stored_entry x n k)) (rw (ne_eqb k y.slot.number d) refl) ∙ still x k) e))
+    (cases_eq k y.slot.number)
+
+pub stored_kept : (xs : List Stored) (b : Option Begun) → Current xs b → Kept false (stored_entries xs b)
+stored_kept xs b cur = record {
+  slots = length_each (λ k. stored_entry (slice_index_or xs k vacant) (written_at b k) k);
+  fine = λ k l.
+      let h : k ≤ 31 = omega arith in
+      subst Fine (sym (stored_here xs b k h)) (stored_fine (slice_index_or xs k vacant) (written_at b k) k (within xs b k cur h) h);
+  alone = λ k l e.
+      sym (waits_is xs b k cur) ∙ half_alone b (slice_index_or xs k vacant) k (sym (ap half (stored_here xs b k (omega arith))) ∙ e);
+}
+
+pub new_stored : (p : Progress) (x : Stored) → IsStored p x → ((k : ℕ) → progress_entry p k ≡ fresh_entry k) → stored_entries (replicate 32 x) None ≡ each_slot fresh_entry
+new_stored p x i e =
+    each_same (λ k. stored_entry (slice_index_or (replicate 32 x) k vacant) 0 k) fresh_entry
+    (λ k h. ap (λ (y : Stored). stored_entry y 0 k) (get_or-replicate 32 k x vacant (omega arith)) ∙ stored_is p x 0 k i (λ _. sym (ap (λ (y : Entry). y.written) (e k))) ∙ e k)
+
+-- the progress of a slot that is not whole
+half_or_none : (p : Progress) (s : ℕ) → p.written ≢ p.size → cond (half (progress_entry p s)) p.written 0 ≡ p.written
+half_or_none p s d =
+    ⊎_elim
+    (λ (z : p.written ≡ 0). rw z refl)
+    (λ (z : p.written ≢ 0).
+    rw (and_from (nat_lt 0 p.written) (nat_lt p.written p.size) (lt-ltb 0 p.written (omega arith)) (lt-ltb p.written p.size (omega (arith, p.in_size, d)))) refl)
+    (cases_eq p.written 0)
+
+module _ (xs : List Stored) (b b' : Option Begun) (s : ℕ) (p : Progress) (x : Stored) (l : length xs ≡ 32) (h : s ≤ 31) (i : IsStored p x) (f : (k : ℕ) → k ≢ s → written_at b' k ≡ written_at b k) (g : written_at b' s ≡ cond (half (progress_entry p s)) p.written 0) where
+  entries_put : stored_entries (slice_set xs s x) b' ≡ slice_set (stored_entries xs b) s (progress_entry p s)
+  entries_put =
+      each_put (λ k. stored_entry (slice_index_or xs k vacant) (written_at b k) k) (λ k. stored_entry (slice_index_or (slice_set xs s x) k vacant) (written_at b' k) k) s (progress_entry p s) h
+      (let r : s < length xs = omega arith in
+      ap (λ (y : Stored). stored_entry y (written_at b' s) s) (get_or-set_same xs s x vacant r) ∙ stored_is p x (written_at b' s) s i (λ d. g ∙ half_or_none p s d))
+      (λ k d. ap (λ (y : Stored). stored_entry y (written_at b' k) k) (get_or-set_other xs s k x vacant d) ∙ ap (λ n. stored_entry (slice_index_or xs k vacant) n k) (f k d))
+
+  begun_half : 0 < written_at b' s → (x.whole ≡ false) × (written_at b' s < x.size)
+  begun_half w =
+      ⊎_elim
+      (λ (e : half (progress_entry p s) ≡ true).
+      let t : written_at b' s ≡ p.written = g ∙ rw e refl in
+      let u = ltb-true p.written p.size (and_parts (nat_lt 0 p.written) (nat_lt p.written p.size) e).1 in
+      (i.whole ∙ ne_eqb p.written p.size (λ q. omega (arith, u, q)), omega (arith, t, u, i.size)))
+      (λ (e : half (progress_entry p s) ≡ false). let z : written_at b' s ≡ 0 = g ∙ rw e refl in absurd (omega (arith, z, w)))
+      (cases_Bool (half (progress_entry p s)))
+
+  pub put_current : Current xs b → Current (slice_set xs s x) b'
+  put_current cur k r w =
+      ⊎_elim
+      (λ (t : k ≡ s). rw t
+      (let j : s < length xs = omega arith in subst (λ (y : Stored). (y.whole ≡ false) × (written_at b' s < y.size)) (sym (get_or-set_same xs s x vacant j)) (begun_half (subst (λ n. 0 < written_at b' n) t w))))
+      (λ (d : k ≢ s).
+      subst (λ (y : Stored). (y.whole ≡ false) × (written_at b' k < y.size)) (sym (get_or-set_other xs s k x vacant d)) (rw (f k d) (cur k r (subst (λ n. 0 < n) (f k d) w))))
+      (cases_eq k s)
+
+  pub put_stored : (half (progress_entry p s) && must_wait false (stored_entries xs b) s) ≡ false →
+      stored_entries (slice_set xs s x) b' ≡ put_after false (stored_entries xs b) s (progress_entry p s)
+  put_stored w = entries_put ∙ rw w refl

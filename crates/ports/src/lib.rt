@@ -5,9 +5,11 @@
 pub mod answers;
 pub mod delivered;
 pub mod interruptible;
+pub mod memory;
 pub mod port;
-mod progress;
+pub mod progress;
 pub mod renumbered;
+pub mod slot;
 pub mod slot_map;
 mod stored;
 #[cfg(test)]

@@ -12,14 +12,9 @@ pub trait Port {
     /// Whether a half written slot may be left for another.
     const INTERRUPTIBLE: bool;
 
-    /// The constant, for clauses.
-    ghost interrupts: { Bool };
+    ghost INTERRUPTIBLE: { Bool };
 
     ghost meaning: { Self → Meaning };
-
-    /// The constant, for code over any port: proofs there know nothing of the constant itself.
-    fn can_interrupt() -> bool
-        ensures { result ≡ interrupts };
 
     /// The blocks that one feed writes at most.
     fn rate(&self) -> u32
@@ -36,8 +31,8 @@ pub trait Port {
 
     /// Writes the next blocks, or meets a flawed one among them and leaves the slot blank.
     fn feed(&mut self, slot: u32) -> Result<Fed, Refusal>
-        ensures answer { result ≡ feed_answer interrupts (meaning self.old) slot }
-        ensures after { meaning self.new ≡ feed_after interrupts (meaning self.old) slot };
+        ensures answer { result ≡ feed_answer INTERRUPTIBLE (meaning self.old) slot }
+        ensures after { meaning self.new ≡ feed_after INTERRUPTIBLE (meaning self.old) slot };
 
     /// Makes the slot blank.
     fn shut(&mut self, slot: u32) -> Result<(), Refusal>

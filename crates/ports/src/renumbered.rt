@@ -26,25 +26,20 @@ impl<P: Port> Renumbered<P> {
 
     /// The slot below: a call for it does what the call for the slot above should.
     fn below(&self, slot: u32) -> Result<u32, Refusal>
-        ensures { Found P.Port.interrupts (places_of self.now.map) (P.Port.meaning self.now.port) slot result }
+        ensures { Found P.Port.INTERRUPTIBLE (places_of self.now.map) (P.Port.meaning self.now.port) slot result }
     {
         self.map.below(slot)
     }
 }
 
 impl<P: Port> Port for Renumbered<P> {
-    // No proof over any port sees this constant, so a test compares it with `can_interrupt`.
     const INTERRUPTIBLE: bool = P::INTERRUPTIBLE;
 
-    ghost interrupts = { P.Port.interrupts };
+    ghost INTERRUPTIBLE = { P.Port.INTERRUPTIBLE };
 
     ghost meaning = { renumbered_meaning P.Port.meaning };
 
     ghost sound = { λ p. re_sound p.map.places p.map.sized p.map.whole (P.Port.meaning p.port) (P.Port.sound p.port) };
-
-    fn can_interrupt() -> bool {
-        P::can_interrupt()
-    }
 
     fn rate(&self) -> u32 {
         self.port.rate()

@@ -59,7 +59,5 @@ fn piled_layers_reach_the_board(rt: HostRuntime) -> Result<(), Fail> {
 #[test]
 fn a_layer_has_the_constant_of_its_port(rt: HostRuntime) {
     assert!(rt; Renumbered::<Interruptible>::INTERRUPTIBLE);
-    assert!(rt; Renumbered::<Interruptible>::can_interrupt());
     assert!(rt; !Renumbered::<Uninterruptible>::INTERRUPTIBLE);
-    assert!(rt; !Renumbered::<Uninterruptible>::can_interrupt());
 }

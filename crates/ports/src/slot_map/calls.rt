@@ -1,42 +1,21 @@
 //! Maps are made, changed and asked.
 
-ghost use Rattle.std.specs.Prelude.{◌≡◌, ◌≤◌, slice_index};
+ghost use Rattle.std.specs.Prelude.{◌≡◌, slice_index};
 ghost use Rattle.ports.specs.Calls.{judged, unless, made_of, why_slot};
-ghost use Rattle.ports.specs.Maps.{covers, exchanged, holds, why_exchange, why_map};
+ghost use Rattle.ports.specs.Maps.{covers, exchanged, why_exchange, why_map};
 ghost use Rattle.ports.specs.Means.{places_of};
 ghost use Rattle.std.specs.List.{range_with_len};
 
 use crate::answers::Refusal;
+use crate::slot::Slot;
 use crate::slot_map::SlotMap;
-
-/// Whether the board slot stands at some place.
-fn has(places: &[u8; 32], board: u8) -> bool
-    ensures { result ≡ holds places.now board }
-{
-    places.contains(&board)
-}
+use std::array;
 
 /// Whether each board slot stands at some place.
 fn has_all(places: &[u8; 32]) -> bool
     ensures { result ≡ covers places.now 32 }
 {
-    for board in 0..32 {
-        if !has(places, board) {
-            return false;
-        }
-    }
-    true
-}
-
-/// The places after an exchange of two.
-fn swapped(mut places: [u8; 32], a: u32, b: u32) -> [u8; 32]
-    requires { (a ≤ 31) × (b ≤ 31) }
-    ensures { result ≡ exchanged places a b }
-{
-    let first = places[a as usize];
-    places[a as usize] = places[b as usize];
-    places[b as usize] = first;
-    places
+    (0..32).all(|board| places.contains(&board))
 }
 
 impl SlotMap {
@@ -44,9 +23,8 @@ impl SlotMap {
     pub fn identity() -> Self
         ensures { places_of result ≡ range_with_len 0 32 }
     {
-        // The numbers 0 to 31 as bytes, in order.
         SlotMap {
-            places: *b"\x00\x01\x02\x03\x04\x05\x06\x07\x08\x09\x0a\x0b\x0c\x0d\x0e\x0f\x10\x11\x12\x13\x14\x15\x16\x17\x18\x19\x1a\x1b\x1c\x1d\x1e\x1f",
+            places: array::from_fn(|place| place as u8),
         }
     }
 
@@ -65,10 +43,9 @@ impl SlotMap {
         ensures answer { result ≡ judged (why_exchange a b) tt }
         ensures after { places_of self.new ≡ unless (why_exchange a b) (places_of self.old) (exchanged (places_of self.old) a b) }
     {
-        if a > 31 || b > 31 {
-            return Err(Refusal::BadMap);
-        }
-        self.places = swapped(self.places, a, b);
+        let a = Slot::try_from(a).map_err(|_| Refusal::BadMap)?;
+        let b = Slot::try_from(b).map_err(|_| Refusal::BadMap)?;
+        self.places.swap(a.number as usize, b.number as usize);
         Ok(())
     }
 
@@ -76,9 +53,7 @@ impl SlotMap {
     pub fn below(&self, slot: u32) -> Result<u32, Refusal>
         ensures { result ≡ judged (why_slot slot) (slice_index (places_of self.now) slot) }
     {
-        if slot > 31 {
-            return Err(Refusal::NoSuchSlot);
-        }
-        Ok(self.places[slot as usize] as u32)
+        let slot = Slot::try_from(slot)?;
+        Ok(u32::from(self.places[slot.number as usize]))
     }
 }

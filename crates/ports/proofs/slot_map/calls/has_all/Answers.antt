@@ -1,13 +1,10 @@
--- The numbers below the next one stand in the list.
-use Rattle.std.proofs.Common.{sym}
-use Rattle.ports.specs.MapLaws.{lacks, covers_none, covers_more}
+-- Each number below 32 stands in the list.
+use Rattle.std.proofs.Common.{refl, rules, tests}
+use Rattle.std.proofs.lemmas.Iterator.{YieldsList-from_range}
+use Rattle.std.proofs.lemmas.Iterator.Search.{all_from_yields_List}
+use Rattle.ports.specs.Maps.{holds, covers}
 use Rattle.ports.proofs.slot_map.calls.has_all.Goals as goal
 
-pub loop-board-init : goal.loop-board-init
-loop-board-init c = covers_none c.args.places.now
-
-pub returns-then-not-has : goal.returns-then-not-has
-returns-then-not-has c = sym (lacks c.args.places.now 32 c.loop-board.board c.loop-board-test.true (sym c.if-not-has.ensures))
-
-pub loop-board-preserved : goal.loop-board-preserved
-loop-board-preserved c = covers_more c.args.places.now c.loop-board.board c.loop-board.invariant (sym c.if-not-has.ensures)
+pub returns : goal.returns
+unfolding covers
+returns c = all_from_yields_List (holds c.args.places.now) _ _ c.all.result c.all.ensures.ran (YieldsList-from_range 0 32 32 refl refl) (λ x b q k. search (rules, tests))
