@@ -35,6 +35,9 @@ module _ (l : Layout) (rules : Rules l) where
   pub tasks_within : l.tasks ≤ 16
   tasks_within = ⊎_elim (λ some. (rules.counts.1 some).1.1) (λ no'. omega arith) (cases_lt 0 l.tasks)
 
+  pub partitions_within : length l.partitions ≤ 8
+  partitions_within = ⊎_elim (λ some. (rules.counts.1 some).2.1) (λ no'. omega (arith, (rules.counts.0 (omega arith)).2)) (cases_lt 0 l.tasks)
+
   pub accelerators_within : length l.accelerators ≤ 32
   accelerators_within = ⊎_elim (λ some. (rules.counts.1 some).3.1) (λ no'. omega (arith, (rules.counts.0 (omega arith)).3)) (cases_lt 0 l.tasks)
 

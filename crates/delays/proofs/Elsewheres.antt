@@ -6,10 +6,11 @@ use Rattle.std.proofs.lemmas.List.Sums.{sum_by-cons, get_or-le-sum_by}
 use Rattle.std.proofs.lemmas.Bool.{cond-true, cond-false, cases_Bool, eqb-true, eqb-false, eq-eqb, ne_eqb}
 use Rattle.plan.specs.declared.parts.Accelerator.{Accelerator}
 use Rattle.plan.specs.Rules.{Layout, Rules, idle}
-use Rattle.delays.specs.declared.writes.Numbered.{Numbered}
+use Rattle.delays.specs.declared.elsewhere.Numbered.{Numbered}
 use Rattle.delays.specs.Greatest.{greatest}
 use Rattle.delays.specs.Delays.{partition_at, rounded_up, write_ticks, ticks_elsewhere, longest_elsewhere, accelerators_in}
 use Rattle.delays.specs.Places.{number_at, place_ticks}
+use Rattle.delays.proofs.Bounds.{partitions_within}
 use Rattle.delays.proofs.Greatests.{greatest_within, greatest_least}
 
 -- where some are counted, there is one
@@ -37,14 +38,14 @@ both a b h k = omega arith
 
 module _ (l : Layout) (rules : Rules l) (rate k : ℕ) where
   abbrev places : List Numbered
-  places = map (number_at l) (range_with_len 0 (length l.partitions))
+  places = map (number_at l) (range_with_len 0 8)
 
   nothing : Numbered
   nothing = record { number = 0; size = 0 }
 
   -- a partition that counts has an accelerator elsewhere
-  place_within : (j : ℕ) → j < length l.partitions → place_ticks l rate k (number_at l j) ≤ longest_elsewhere l rate k
-  place_within j here =
+  place_within : (j : ℕ) → place_ticks l rate k (number_at l j) ≤ longest_elsewhere l rate k
+  place_within j =
       ⊎_elim
       (λ left_out. rw (cond-true _ _ _ left_out) (omega arith))
       (λ other.
@@ -71,8 +72,9 @@ module _ (l : Layout) (rules : Rules l) (rate k : ℕ) where
       (λ other.
       let some : eqb (accelerators_in l j) 0 ≡ false = ne_eqb _ 0 (counted (λ b. eqb b.partition j) l.accelerators i here (eq-eqb j j refl)) in
       let is : place_ticks l rate k (number_at l j) ≡ write_ticks l rate a = cond-false _ _ _ other ∙ cond-false _ _ _ some in
-      let at_j = get_or-map-range_with_len (number_at l) 0 (length l.partitions) j j nothing there (omega arith) in
-      let in' : j < length places = omega (arith, length-map-range_with_len (number_at l) 0 (length l.partitions)) in
+      let few : j < 8 = omega (arith, partitions_within l rules) in
+      let at_j = get_or-map-range_with_len (number_at l) 0 8 j j nothing few (omega arith) in
+      let in' : j < length places = omega (arith, length-map-range_with_len (number_at l) 0 8) in
       rw (cond-false _ _ _ other) (omega (arith, is, ap (place_ticks l rate k) at_j, greatest_least (place_ticks l rate k) nothing places j in')))
       (cases_Bool (eqb j k))
 
@@ -80,6 +82,6 @@ module _ (l : Layout) (rules : Rules l) (rate k : ℕ) where
   elsewhere_is =
       both _ _
       (greatest_within (place_ticks l rate k) _ nothing places (λ j h.
-      let here : j < length l.partitions = omega (arith, length-map-range_with_len (number_at l) 0 (length l.partitions)) in
-      rw (get_or-map-range_with_len (number_at l) 0 (length l.partitions) j j nothing here (omega arith)) (place_within j here)))
+      let here : j < 8 = omega (arith, length-map-range_with_len (number_at l) 0 8) in
+      rw (get_or-map-range_with_len (number_at l) 0 8 j j nothing here (omega arith)) (place_within j)))
       (greatest_within (ticks_elsewhere l rate k) _ idle l.accelerators ticks_within)

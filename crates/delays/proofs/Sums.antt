@@ -1,15 +1,16 @@
--- Sums over the numbers from 0 on.
-use Rattle.std.proofs.Common.{◌≡◌, ℕ, zero, suc, ◌+◌, [], sum_by, ap, ◌∙◌, add-zero, add-one, arith}
-use Rattle.std.specs.List.{range_with_len}
+-- Sums over some items of a list.
+use Rattle.std.proofs.Common.{◌≡◌, ℕ, ◌+◌, Bool, true, false, cond, not, List, [], ◌∷◌, filter, sum_by, sym, ◌∙◌, arith}
 use Rattle.std.proofs.lemmas.List.Sums.{sum_by-cons}
 
-from : (f : ℕ → ℕ) (a n : ℕ) → sum_by f (range_with_len a (suc n)) ≡ sum_by f (range_with_len a n) + f (a + n)
-from f a zero = omega (arith, sum_by-cons f a [], ap f (add-zero a))
-from f a (suc n) =
-    let same : a + 1 + n ≡ a + suc n = omega arith in
-    omega (arith, sum_by-cons f a (range_with_len (a + 1) (suc n)), sum_by-cons f a (range_with_len (a + 1) n), from f (a + 1) n, ap f same)
-
-pub sum_more : (f : ℕ → ℕ) (n : ℕ) → sum_by f (range_with_len 0 (n + 1)) ≡ sum_by f (range_with_len 0 n) + f n
-sum_more f n =
-    let same : 0 + n ≡ n = omega arith in
-    ap (λ m. sum_by f (range_with_len 0 m)) (add-one n) ∙ from f 0 n ∙ ap (λ m. sum_by f (range_with_len 0 n) + f m) same
+-- those that are left out count as 0
+pub sum_without : {A : Type 0} (out : A → Bool) (f : A → ℕ) (xs : List A) → sum_by f (filter (λ x. not (out x)) xs) ≡ sum_by (λ x. cond (out x) 0 (f x)) xs
+sum_without out f [] = omega arith
+sum_without out f (x ∷ xs) =
+    let rest = sum_without out f xs in
+    let kept = filter (λ y. not (out y)) xs in
+    let more = sum_by-cons f x kept in
+    elim (out x) as (λ b. sum_by f (cond (not b) (x ∷ kept) kept) ≡ cond b 0 (f x) + sum_by (λ y. cond (out y) 0 (f y)) xs) [
+      | true ↦ omega arith
+      | false ↦ omega arith
+    ]
+    ∙ sym (sum_by-cons (λ y. cond (out y) 0 (f y)) x xs)
