@@ -41,7 +41,9 @@ impl<'a> Measure<Elsewhere<'a>> for Numbered {
     ghost measured = { λ e p. place_ticks (layout e.writing.plan.now) e.writing.rate e.partition p };
 
     fn measure(&self, context: &Elsewhere<'a>) -> u64 {
-        if self.number == context.partition || accelerators_in(context.writing.plan, self.number) == 0 {
+        if self.number == context.partition
+            || accelerators_in(context.writing.plan, self.number) == 0
+        {
             return 0;
         }
         u64::from(context.writing.ticks(self.size))
