@@ -3,5 +3,4 @@ pub mod Times
 pub mod Bounds
 pub mod Elsewheres
 pub mod Sums
-pub mod Fills
 pub mod Tables

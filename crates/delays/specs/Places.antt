@@ -1,7 +1,7 @@
 -- Partitions with their numbers, measured by their write times.
 use Rattle.std.specs.Prelude.{ℕ, cond, ◌==◌}
 use Rattle.plan.specs.Rules.{Layout}
-use Rattle.delays.specs.declared.writes.Numbered.{Numbered}
+use Rattle.delays.specs.declared.elsewhere.Numbered.{Numbered}
 use Rattle.delays.specs.Delays.{partition_at, rounded_up, accelerators_in}
 
 abbrev pub number_at : Layout → ℕ → Numbered

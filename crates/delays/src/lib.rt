@@ -3,7 +3,8 @@
 
 #![tactic(auto)]
 
+mod elsewhere;
 pub mod measure;
 pub mod table;
 mod weights;
-mod writes;
+mod writing;

@@ -15,9 +15,9 @@ pub trait Measure<C> {
 pub fn greatest<C, T: Measure<C>>(items: &[T], context: &C) -> u64
     ensures { result ≡ greatest_of (T.measured context.now) items.now }
 {
-    let mut best = 0;
-    for item in items {
-        best = item.measure(context).max(best);
-    }
-    best
+    items
+        .iter()
+        .map(|item| item.measure(context))
+        .max()
+        .unwrap_or(0)
 }

@@ -1,18 +1,16 @@
 //! The delay table of a plan on a port.
 
-ghost use Rattle.std.specs.Prelude.{◌≡◌, ◌<◌, ◌≤◌, Bool, length};
+ghost use Rattle.std.specs.Prelude.{◌≡◌, ◌<◌, Bool, length};
 ghost use Rattle.plan.specs.Layouts.{layout};
-ghost use Rattle.delays.specs.Delays.{held_up};
 ghost use Rattle.delays.specs.Rows.{refusal_number, row_of, table_answer, table_after};
 
-use crate::weights::others;
-use crate::writes::{accelerators_in, longest_elsewhere, write_ticks};
+use crate::writing::Writing;
 use plan::plan::Plan;
 use ports::port::Port;
 
 /// What the table tells of an accelerator, in ticks: how long a request can wait, how long its image takes to write,
 /// and how long it can stay in all.
-#[derive(Clone, Copy)]
+#[derive(Clone, Copy, Debug, Default, PartialEq, Eq)]
 pub struct Row {
     pub delay: u32,
     pub write: u32,
@@ -20,7 +18,7 @@ pub struct Row {
 }
 
 /// Why the table is refused.
-#[derive(Clone, Copy)]
+#[derive(Clone, Copy, Debug, PartialEq, Eq)]
 pub enum Refusal {
     TooFewRows,
 }
@@ -35,40 +33,23 @@ impl Refusal {
     }
 }
 
-/// What half written slots of other partitions can add, where the port cannot be interrupted.
-fn held_up(plan: &Plan, rate: u32, interruptible: bool, partition: u32) -> u64
-    requires { 1 ≤ rate }
-    ensures is { result ≡ held_up (layout plan.now) rate interruptible partition }
-    ensures small { result ≤ 32000000 }
-{
-    if interruptible {
-        return 0;
-    }
-    u64::from(accelerators_in(plan, partition)) * longest_elsewhere(plan, rate, partition)
-}
-
-/// The row of accelerator `a`: the weights are added up first, and the sum is divided once.
-fn row_at(plan: &Plan, rate: u32, interruptible: bool, a: usize) -> Row
-    requires paced { 1 ≤ rate }
-    requires there { a < length (layout plan.now).accelerators }
-    ensures { result ≡ row_of (layout plan.now) rate interruptible a }
-{
-    let accelerator = plan.accelerator(a);
-    let partition = plan.partition(accelerator.partition as usize);
-    let sum = others(
-        plan,
-        rate,
-        accelerator.partition,
-        partition.slots,
-        accelerator.owner,
-    );
-    let held = held_up(plan, rate, interruptible, accelerator.partition);
-    let delay = (sum / u64::from(partition.slots) + held) as u32;
-    let write = write_ticks(partition.size, rate);
-    Row {
-        delay,
-        write,
-        stay: delay + write + accelerator.run + 1,
+impl Writing<'_> {
+    /// The row of accelerator `a`: the weights are added up first, and the sum is divided once.
+    fn row(&self, a: usize) -> Row
+        requires { a < length (layout self.now.plan.now).accelerators }
+        ensures { result ≡ row_of (layout self.now.plan.now) self.now.rate self.now.interruptible a }
+    {
+        let accelerator = self.plan.accelerator(a);
+        let partition = self.plan.partition(accelerator.partition as usize);
+        let sum = self.others(accelerator.partition, partition.slots, accelerator.owner);
+        let held = self.held_up(accelerator.partition);
+        let delay = (sum / u64::from(partition.slots) + held) as u32;
+        let write = self.ticks(partition.size);
+        Row {
+            delay,
+            write,
+            stay: delay + write + accelerator.run + 1,
+        }
     }
 }
 
@@ -81,8 +62,13 @@ pub fn table<P: Port>(plan: &Plan, port: &P, rows: &mut [Row]) -> Result<(), Ref
     if rows.len() < count {
         return Err(Refusal::TooFewRows);
     }
-    for a in 0..count {
-        rows[a] = row_at(plan, port.rate(), P::can_interrupt(), a);
+    let writing = Writing {
+        plan,
+        rate: port.rate(),
+        interruptible: P::can_interrupt(),
+    };
+    for (a, row) in rows[..count].iter_mut().enumerate() {
+        *row = writing.row(a);
     }
     Ok(())
 }
