@@ -14,14 +14,7 @@ impl Records {
         ensures { result.table ≡ replicate 16 blank }
     {
         Records {
-            table: [Record {
-                accelerator: 0,
-                ticket: 0,
-                stage: Stage::Empty,
-                waited: 0,
-                written: 0,
-                run: 0,
-            }; 16],
+            table: [Record::default(); 16],
         }
     }
 
@@ -50,11 +43,7 @@ impl Records {
         requires { i < 16 }
         ensures { result ≡ held_stage (at self.now.table i).stage }
     {
-        let r = self.table[i];
-        match r.stage {
-            Stage::Empty => false,
-            _ => true,
-        }
+        self.table[i].stage != Stage::Empty
     }
 
     /// A new request.
@@ -66,9 +55,7 @@ impl Records {
             accelerator,
             ticket,
             stage: Stage::Queued,
-            waited: 0,
-            written: 0,
-            run: 0,
+            ..Record::default()
         };
     }
 
@@ -76,14 +63,7 @@ impl Records {
         requires { i < 16 }
         ensures { self.new.table ≡ slice_set self.old.table i blank }
     {
-        self.table[i] = Record {
-            accelerator: 0,
-            ticket: 0,
-            stage: Stage::Empty,
-            waited: 0,
-            written: 0,
-            run: 0,
-        };
+        self.table[i] = Record::default();
     }
 
     /// Record `n` against the lowest one before it.
@@ -143,20 +123,12 @@ fn aged(r: Record) -> Record
 {
     match r.stage {
         Stage::Queued | Stage::Reserved { .. } => Record {
-            accelerator: r.accelerator,
-            ticket: r.ticket,
-            stage: r.stage,
             waited: r.waited.saturating_add(1),
-            written: r.written,
-            run: r.run,
+            ..r
         },
         Stage::Running { .. } => Record {
-            accelerator: r.accelerator,
-            ticket: r.ticket,
-            stage: r.stage,
-            waited: r.waited,
-            written: r.written,
             run: r.run.saturating_add(1),
+            ..r
         },
         Stage::Empty | Stage::Ended { .. } => r,
     }

@@ -48,15 +48,14 @@ impl<P: Port> Scheduler<P> {
         if slot >= self.plan.slot_count() {
             return Err(Refusal::NoSlot);
         }
-        match self.records.lowest(&RunsIn { slot }) {
-            None => Err(Refusal::NotRunning),
-            Some(i) => {
-                let ticket = self.records.get(i).ticket;
-                self.finish(i, Outcome::Finished);
-                self.settle();
-                Ok(ticket)
-            }
-        }
+        let i = self
+            .records
+            .lowest(&RunsIn { slot })
+            .ok_or(Refusal::NotRunning)?;
+        let ticket = self.records.get(i).ticket;
+        self.finish(i, Outcome::Finished);
+        self.settle();
+        Ok(ticket)
     }
 
     /// Passes a tick: the ticket written, if any, and how many requests ended.
@@ -90,30 +89,24 @@ impl<P: Port> Scheduler<P> {
             return Err(Refusal::NoTask);
         }
         let r = self.records.get(task as usize);
-        match r.stage {
-            Stage::Empty => Err(Refusal::NoRequest),
-            Stage::Queued | Stage::Reserved { .. } | Stage::Running { .. } => {
-                if r.ticket != ticket {
-                    Err(Refusal::OtherTicket)
-                } else {
-                    Err(Refusal::Unended)
-                }
-            }
-            Stage::Ended { slot, outcome } => {
-                if r.ticket != ticket {
-                    return Err(Refusal::OtherTicket);
-                }
-                self.records.empty(task as usize);
-                Ok(Report {
-                    accelerator: r.accelerator,
-                    slot,
-                    waited: r.waited,
-                    written: r.written,
-                    run: r.run,
-                    outcome,
-                })
-            }
+        if r.stage == Stage::Empty {
+            return Err(Refusal::NoRequest);
         }
+        if r.ticket != ticket {
+            return Err(Refusal::OtherTicket);
+        }
+        let Stage::Ended { slot, outcome } = r.stage else {
+            return Err(Refusal::Unended);
+        };
+        self.records.empty(task as usize);
+        Ok(Report {
+            accelerator: r.accelerator,
+            slot,
+            waited: r.waited,
+            written: r.written,
+            run: r.run,
+            outcome,
+        })
     }
 
     /// Tells the stage of a task's record.

@@ -87,11 +87,8 @@ fn written(r: Record, stage: Stage) -> Record
     ensures { result ≡ fed_record r stage }
 {
     Record {
-        accelerator: r.accelerator,
-        ticket: r.ticket,
         stage,
-        waited: r.waited,
         written: r.written.saturating_add(1),
-        run: r.run,
+        ..r
     }
 }
