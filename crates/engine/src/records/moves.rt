@@ -99,20 +99,12 @@ impl Records {
         best
     }
 
-    /// The tick passes for the record at `i`.
-    fn age_one(&mut self, i: usize)
-        requires { i < 16 }
-        ensures { self.new.table ≡ slice_set self.old.table i (aged (at self.old.table i)) }
-    {
-        self.table[i] = aged(self.table[i]);
-    }
-
     /// The tick passes for every record.
     pub(crate) fn age(&mut self)
         ensures { self.new.table ≡ map aged self.old.table }
     {
-        for i in 0..16usize {
-            self.age_one(i);
+        for record in &mut self.table {
+            *record = aged(*record);
         }
     }
 }
