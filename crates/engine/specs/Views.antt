@@ -1,6 +1,9 @@
 -- What the engine's structs stand for.
-use Rattle.std.specs.Prelude.{ℕ, ◌<◌, List, map, Some, None, Option}
+use Rattle.std.specs.Prelude.{◌≡◌, ℕ, Bool, List, map}
+use Rattle.std.specs.Borrow.{Bor}
+use Rattle.std.specs.Fn.{Shared, FnReturnsAt}
 use Rattle.arrayvec.specs.ArrayVec.{ArrayVec}
+use Rattle.model.specs.declared.requests.Record.{Record}
 use Rattle.engine.specs.declared.lines.Lines.{Lines}
 
 -- the slots that stand in a line, the next one first
@@ -10,7 +13,6 @@ standing line = line.items
 abbrev pub rows_of : Lines → List (List ℕ)
 rows_of ls = map standing ls.rows.items
 
--- a place of the table
-abbrev pub Within : Option ℕ → Type 0
-Within None = Unit {0}
-Within (Some i) = i < 16
+-- the closure answers of each record what p says of it
+abbrev pub Says : {F : Type 0} → Shared F (Bor Record × Unit {0}) Bool → F → (Record → Bool) → Type 0
+Says g wanted p = (r : Record) (b : Bool) → FnReturnsAt g wanted r b → b ≡ p r
