@@ -16,10 +16,8 @@ impl<P: Port> Scheduler<P> {
     fn queued(&self, k: usize) -> Option<Place>
         ensures { result ≡ lowest (queued_in (state P.Port self.now).layout k) (state P.Port self.now).records }
     {
-        self.records.lowest(|r| {
-            r.stage == Stage::Queued
-                && self.plan.accelerator(r.accelerator as usize).partition as usize == k
-        })
+        self.records
+            .lowest(|r| r.stage == Stage::Queued && self.partition_of(r) == k)
     }
 
     /// The slots in line of partition `k` go to its queued requests.

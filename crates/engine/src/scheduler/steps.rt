@@ -68,7 +68,7 @@ impl<P: Port> Scheduler<P> {
         let ticket = self.records.get(place).ticket;
         let flawed = self.write(place);
         self.settle();
-        (Some(ticket), overrun + flawed)
+        (Some(ticket), overrun + u32::from(flawed))
     }
 
     /// Tells what became of an ended request and empties its record.

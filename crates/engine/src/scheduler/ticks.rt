@@ -2,7 +2,7 @@
 
 ghost use Rattle.std.specs.Prelude.{◌≡◌, ◌≤◌, count_by};
 ghost use Rattle.ports.specs.Calls.{feed_after};
-ghost use Rattle.model.specs.Records.{lowest, one, ended_stage, fed_record};
+ghost use Rattle.model.specs.Records.{lowest, ended_stage, fed_record};
 ghost use Rattle.model.specs.Moves.{begun, expired, expire, choose, stage_after, stage_fed, write};
 ghost use Rattle.engine.specs.State.{state};
 
@@ -58,22 +58,20 @@ impl<P: Port> Scheduler<P> {
             .lowest(|r| matches!(r.stage, Stage::Reserved { .. }))
     }
 
-    /// The request at `place` is written, and the tick passes for all the others. Tells how many ended: one or none.
-    pub(super) fn write(&mut self, place: Place) -> u32
-        ensures count { result ≡ one (ended_stage (stage_fed (state P.Port self.old) place)) }
-        ensures few { result ≤ 1 }
+    /// The request at `place` is written, and the tick passes for all the others. Tells whether it ended.
+    pub(super) fn write(&mut self, place: Place) -> bool
+        ensures ended { result ≡ ended_stage (stage_fed (state P.Port self.old) place) }
         ensures after { state P.Port self.new ≡ write (state P.Port self.old) place }
     {
         let r = self.records.get(place);
-        let k = self.plan.accelerator(r.accelerator as usize).partition;
         let stage = feed(&mut self.port, slot_of(r.stage));
         self.records.age();
         self.records.put(place, written(r, stage));
         let Stage::Ended { slot, .. } = stage else {
-            return 0;
+            return false;
         };
-        self.free(k as usize, slot);
-        1
+        self.free(self.partition_of(&r), slot);
+        true
     }
 }
 
@@ -87,11 +85,8 @@ fn feed<P: Port>(port: &mut P, slot: u32) -> Stage
             slot,
             outcome: Outcome::Flaw { block, board },
         },
-        Ok(Fed::Wrote(_)) => match port.left(slot) {
-            Ok(0) => Stage::Running { slot },
-            _ => Stage::Reserved { slot },
-        },
-        Err(_) => Stage::Reserved { slot },
+        Ok(Fed::Wrote(_)) if port.left(slot) == Ok(0) => Stage::Running { slot },
+        _ => Stage::Reserved { slot },
     }
 }
 

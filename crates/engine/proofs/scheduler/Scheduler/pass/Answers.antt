@@ -1,4 +1,5 @@
-use Rattle.std.proofs.Common.{ap, ◌∙◌}
+use Rattle.std.proofs.Common.{◌≡◌, ap, ◌∙◌, rules}
+use Rattle.model.specs.Records.{one}
 use Rattle.model.specs.Moves.{settle}
 use Rattle.engine.specs.State.{state}
 use Rattle.engine.proofs.TickLaws.{idle_answer, idle_after, written_answer, written_after}
@@ -28,7 +29,8 @@ returns g c =
     let is-ready = c.settle.ensures ∙ ap settle c.expire-overrun.ensures.after in
     let place = c.in-Some.place in
     let chosen = c.in-Some.ensures in
+    let flawed : c.from.result ≡ one c.write-flawed.result = search rules in
     record {
-      answer = written_answer s r t n overran is-ready place chosen c.get-ticket.result.ticket c.write-flawed.result (ap (λ x. x.ticket) c.get-ticket.ensures) c.write-flawed.ensures.count;
+      answer = written_answer s r t n overran is-ready place chosen c.get-ticket.result.ticket c.from.result (ap (λ x. x.ticket) c.get-ticket.ensures) (flawed ∙ ap one c.write-flawed.ensures.ended);
       after = written_after s r t n overran is-ready place chosen (state g.P.Port c.write-flawed.new.self) c.write-flawed.ensures.after c.settle-2.ensures;
     }
