@@ -1,24 +1,18 @@
 -- What the engine's structs stand for.
-use Rattle.std.specs.Prelude.{◌≡◌, ℕ, ◌<◌, ◌≤◌, List, map, length, take, Some, None, Option}
+use Rattle.std.specs.Prelude.{◌≡◌, ℕ, Bool, List, map}
+use Rattle.std.specs.Borrow.{Bor}
+use Rattle.std.specs.Fn.{Shared, FnReturnsAt}
+use Rattle.arrayvec.specs.ArrayVec.{ArrayVec}
 use Rattle.model.specs.declared.requests.Record.{Record}
-use Rattle.model.specs.Records.{at, aged}
-use Rattle.engine.specs.declared.lines.Line.{Line}
 use Rattle.engine.specs.declared.lines.Lines.{Lines}
 
 -- the slots that stand in a line, the next one first
-abbrev pub standing : Line → List ℕ
-standing l = take l.len l.slots
+abbrev pub standing : ArrayVec ℕ → List ℕ
+standing line = line.items
 
 abbrev pub rows_of : Lines → List (List ℕ)
-rows_of ls = take ls.count (map standing ls.rows)
+rows_of ls = map standing ls.rows.items
 
--- a place of the table
-abbrev pub Within : Option ℕ → Type 0
-Within None = Unit {0}
-Within (Some i) = i < 16
-
--- ys is xs with the records before i aged
-pub record AgedBelow (xs : List Record) (i : ℕ) (ys : List Record) : Type 0 where
-  pub size : length ys ≡ length xs
-  pub done : (k : ℕ) → k < i → at ys k ≡ aged (at xs k)
-  pub rest : (k : ℕ) → i ≤ k → at ys k ≡ at xs k
+-- the closure answers of each record what p says of it
+abbrev pub Says : {F : Type 0} → Shared F (Bor Record × Unit {0}) Bool → F → (Record → Bool) → Type 0
+Says g wanted p = (r : Record) (b : Bool) → FnReturnsAt g wanted r b → b ≡ p r

@@ -5,6 +5,6 @@
 #![tactic(auto)]
 
 mod lines;
+mod places;
 mod records;
 pub mod scheduler;
-mod wanted;

@@ -12,13 +12,13 @@ use crate::records::Records;
 use plan::plan::Plan;
 use ports::port::Port;
 
-/// Records, lines of free slots and the port change by calls only (`calls`). `next` is the next ticket; past
-/// 4,294,967,295 there is none.
+/// Records, lines of free slots and the port change by calls only (`calls`). `next` is the next ticket, if there
+/// is one left.
 #[derive(Drop)]
 pub struct Scheduler<P: Port> {
     plan: Plan,
     port: P,
     records: Records,
     lines: Lines,
-    next: u64,
+    next: Option<u32>,
 }

@@ -9,8 +9,9 @@ pub enum Outcome {
 }
 
 /// Where a request stands, with its slot once it has one. `Empty` is a record that holds no request.
-#[derive(Clone, Copy, PartialEq, Eq, Debug)]
+#[derive(Clone, Copy, PartialEq, Eq, Debug, Default)]
 pub enum Stage {
+    #[default]
     Empty,
     Queued,
     Reserved { slot: u32 },
@@ -19,7 +20,7 @@ pub enum Stage {
 }
 
 /// The request of a task, and the ticks that it waited, was written and ran.
-#[derive(Clone, Copy)]
+#[derive(Clone, Copy, Default)]
 pub struct Record {
     pub accelerator: u32,
     pub ticket: u32,

@@ -1,11 +1,12 @@
 //! How the records are read and changed.
 
-ghost use Rattle.std.specs.Prelude.{◌≡◌, ℕ, ◌+◌, ◌<◌, ◌≤◌, map, replicate, Some, None, slice_set};
-ghost use Rattle.model.specs.Records.{at, blank, new, staged, held_stage, lower, lowest, aged};
-ghost use Rattle.engine.specs.Views.{Within};
+ghost use Rattle.std.specs.Prelude.{◌≡◌, Bool, cond, map, nat_lt, replicate, slice_set};
+ghost use Rattle.model.specs.declared.requests.Record.{Record};
+ghost use Rattle.model.specs.Records.{at, blank, new, staged, held_stage, lowest, on_found, aged};
+ghost use Rattle.engine.specs.Views.{Says};
 
+use crate::places::Place;
 use crate::records::Records;
-use crate::wanted::Wanted;
 use model::requests::{Record, Stage};
 
 impl Records {
@@ -14,125 +15,82 @@ impl Records {
         ensures { result.table ≡ replicate 16 blank }
     {
         Records {
-            table: [Record {
-                accelerator: 0,
-                ticket: 0,
-                stage: Stage::Empty,
-                waited: 0,
-                written: 0,
-                run: 0,
-            }; 16],
+            table: [Record::default(); 16],
         }
     }
 
-    pub(crate) fn get(&self, i: usize) -> Record
-        requires { i < 16 }
-        ensures { result ≡ at self.now.table i }
+    pub(crate) fn get(&self, place: Place) -> Record
+        ensures { result ≡ at self.now.table place }
     {
-        self.table[i]
+        self.table[place.index]
     }
 
-    pub(crate) fn put(&mut self, i: usize, r: Record)
-        requires { i < 16 }
-        ensures { self.new.table ≡ slice_set self.old.table i r }
+    pub(crate) fn put(&mut self, place: Place, r: Record)
+        ensures { self.new.table ≡ slice_set self.old.table place r }
     {
-        self.table[i] = r;
+        self.table[place.index] = r;
     }
 
-    pub(crate) fn set_stage(&mut self, i: usize, stage: Stage)
-        requires { i < 16 }
-        ensures { self.new.table ≡ slice_set self.old.table i (staged (at self.old.table i) stage) }
+    pub(crate) fn set_stage(&mut self, place: Place, stage: Stage)
+        ensures { self.new.table ≡ slice_set self.old.table place (staged (at self.old.table place) stage) }
     {
-        self.table[i].stage = stage;
+        self.table[place.index].stage = stage;
     }
 
-    pub(crate) fn holds(&self, i: usize) -> bool
-        requires { i < 16 }
-        ensures { result ≡ held_stage (at self.now.table i).stage }
+    pub(crate) fn holds(&self, place: Place) -> bool
+        ensures { result ≡ held_stage (at self.now.table place).stage }
     {
-        let r = self.table[i];
-        match r.stage {
-            Stage::Empty => false,
-            _ => true,
-        }
+        self.table[place.index].stage != Stage::Empty
     }
 
     /// A new request.
-    pub(crate) fn enter(&mut self, i: usize, accelerator: u32, ticket: u32)
-        requires { i < 16 }
-        ensures { self.new.table ≡ slice_set self.old.table i (new accelerator ticket) }
+    pub(crate) fn enter(&mut self, place: Place, accelerator: u32, ticket: u32)
+        ensures { self.new.table ≡ slice_set self.old.table place (new accelerator ticket) }
     {
-        self.table[i] = Record {
+        self.table[place.index] = Record {
             accelerator,
             ticket,
             stage: Stage::Queued,
-            waited: 0,
-            written: 0,
-            run: 0,
+            ..Record::default()
         };
     }
 
-    pub(crate) fn empty(&mut self, i: usize)
-        requires { i < 16 }
-        ensures { self.new.table ≡ slice_set self.old.table i blank }
+    pub(crate) fn empty(&mut self, place: Place)
+        ensures { self.new.table ≡ slice_set self.old.table place blank }
     {
-        self.table[i] = Record {
-            accelerator: 0,
-            ticket: 0,
-            stage: Stage::Empty,
-            waited: 0,
-            written: 0,
-            run: 0,
-        };
+        self.table[place.index] = Record::default();
     }
 
-    /// Record `n` against the lowest one before it.
-    fn lower<W: Wanted>(&self, wanted: &W, n: usize, best: Option<usize>) -> Option<usize>
-        requires here { n < 16 }
-        requires within { Within best }
-        ensures is { result ≡ lower (W.Wanted.wanted wanted.now) self.now.table n best }
-        ensures within { Within result }
+    /// The place of the lower ticket: `n`, or the one found before it.
+    fn lower(&self, n: Place, found: Option<Place>) -> Place
+        ensures { result ≡ on_found found n (λ i. cond (nat_lt (at self.now.table n).ticket (at self.now.table i).ticket) n i) }
     {
-        let r = self.table[n];
-        if !wanted.has(r) {
-            return best;
-        }
-        match best {
-            None => Some(n),
-            Some(i) => if r.ticket < self.table[i].ticket {
-                Some(n)
-            } else {
-                Some(i)
-            },
+        match found {
+            Some(i) if self.get(i).ticket <= self.get(n).ticket => i,
+            _ => n,
         }
     }
 
     /// The place of the lowest ticket among the records that are wanted.
-    pub(crate) fn lowest<W: Wanted>(&self, wanted: &W) -> Option<usize>
-        ensures is { result ≡ lowest (W.Wanted.wanted wanted.now) self.now.table }
-        ensures within { Within result }
+    pub(crate) fn lowest<F: Fn(&Record) -> bool>(&self, wanted: F) -> Option<Place>
+        requires { F.IsAlwaysCallable wanted }
+        ensures { (p : Record → Bool) → Says F.Fn wanted p → result ≡ lowest p self.now.table }
     {
-        let mut best = None;
-        for n in 0..16usize {
-            best = self.lower(wanted, n, best);
+        let mut found = None;
+        for (index, record) in self.table.iter().enumerate() {
+            if wanted(record) {
+                found = Some(self.lower(Place { index }, found));
+            }
         }
-        best
-    }
-
-    /// The tick passes for the record at `i`.
-    fn age_one(&mut self, i: usize)
-        requires { i < 16 }
-        ensures { self.new.table ≡ slice_set self.old.table i (aged (at self.old.table i)) }
-    {
-        self.table[i] = aged(self.table[i]);
+        found
     }
 
     /// The tick passes for every record.
     pub(crate) fn age(&mut self)
         ensures { self.new.table ≡ map aged self.old.table }
     {
-        for i in 0..16usize {
-            self.age_one(i);
+        for record in &mut self.table {
+            *record = aged(*record);
         }
     }
 }
@@ -143,20 +101,12 @@ fn aged(r: Record) -> Record
 {
     match r.stage {
         Stage::Queued | Stage::Reserved { .. } => Record {
-            accelerator: r.accelerator,
-            ticket: r.ticket,
-            stage: r.stage,
             waited: r.waited.saturating_add(1),
-            written: r.written,
-            run: r.run,
+            ..r
         },
         Stage::Running { .. } => Record {
-            accelerator: r.accelerator,
-            ticket: r.ticket,
-            stage: r.stage,
-            waited: r.waited,
-            written: r.written,
             run: r.run.saturating_add(1),
+            ..r
         },
         Stage::Empty | Stage::Ended { .. } => r,
     }

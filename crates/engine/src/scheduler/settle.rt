@@ -1,26 +1,23 @@
 //! Settling.
 
-ghost use Rattle.std.specs.Prelude.{◌≡◌, ◌<◌, ◌≤◌, length};
+ghost use Rattle.std.specs.Prelude.{◌≡◌};
 ghost use Rattle.model.specs.States.{line};
 ghost use Rattle.model.specs.Records.{lowest};
 ghost use Rattle.model.specs.Moves.{queued_in, fill, settle};
-ghost use Rattle.engine.specs.Views.{Within};
 ghost use Rattle.engine.specs.State.{state};
 
+use crate::places::Place;
 use crate::scheduler::Scheduler;
-use crate::wanted::QueuedIn;
+use model::requests::Stage;
 use ports::port::Port;
 
 impl<P: Port> Scheduler<P> {
     /// The request that is next to get a slot of partition `k`.
-    fn queued(&self, k: usize) -> Option<usize>
-        ensures is { result ≡ lowest (queued_in (state P.Port self.now).layout k) (state P.Port self.now).records }
-        ensures within { Within result }
+    fn queued(&self, k: usize) -> Option<Place>
+        ensures { result ≡ lowest (queued_in (state P.Port self.now).layout k) (state P.Port self.now).records }
     {
-        self.records.lowest(&QueuedIn {
-            plan: &self.plan,
-            partition: k,
-        })
+        self.records
+            .lowest(|r| r.stage == Stage::Queued && self.partition_of(r) == k)
     }
 
     /// The slots in line of partition `k` go to its queued requests.
@@ -28,10 +25,10 @@ impl<P: Port> Scheduler<P> {
         ensures { state P.Port self.new ≡ fill k (line (state P.Port self.old) k) (state P.Port self.old) }
     {
         while let Some(slot) = self.lines.first(k) {
-            match self.queued(k) {
-                None => return,
-                Some(i) => self.grant(k, i, slot),
-            }
+            let Some(place) = self.queued(k) else {
+                return;
+            };
+            self.grant(k, place, slot);
         }
     }
 

@@ -32,7 +32,7 @@ impl<P: Port> Scheduler<P> {
             port,
             records: Records::blank(),
             lines,
-            next: u64::from(first),
+            next: Some(first),
         }
     }
 }

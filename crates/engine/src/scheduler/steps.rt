@@ -6,8 +6,8 @@ ghost use Rattle.model.specs.declared.calls.Answer.TheVariants.{Ticket, Ticked, 
 ghost use Rattle.engine.specs.Answers.{told};
 ghost use Rattle.engine.specs.State.{state};
 
+use crate::places::Place;
 use crate::scheduler::Scheduler;
-use crate::wanted::RunsIn;
 use model::refusals::Refusal;
 use model::requests::{Outcome, Record, Report, Stage};
 use ports::port::Port;
@@ -18,24 +18,19 @@ impl<P: Port> Scheduler<P> {
         ensures answer { told Ticket result ≡ request_answer (state P.Port self.old) task accelerator }
         ensures after { state P.Port self.new ≡ request_after (state P.Port self.old) task accelerator }
     {
-        if task >= self.plan.tasks() {
-            return Err(Refusal::NoTask);
-        }
+        let place = Place::of(task, &self.plan)?;
         if accelerator as usize >= self.plan.accelerator_count() {
             return Err(Refusal::NoAccelerator);
         }
         if self.plan.accelerator(accelerator as usize).owner != task {
             return Err(Refusal::OtherOwner);
         }
-        if self.records.holds(task as usize) {
+        if self.records.holds(place) {
             return Err(Refusal::Uncollected);
         }
-        if self.next > 4_294_967_295 {
-            return Err(Refusal::NoTicketLeft);
-        }
-        let ticket = self.next as u32;
-        self.records.enter(task as usize, accelerator, ticket);
-        self.next += 1;
+        let ticket = self.next.ok_or(Refusal::NoTicketLeft)?;
+        self.records.enter(place, accelerator, ticket);
+        self.next = ticket.checked_add(1);
         self.settle();
         Ok(ticket)
     }
@@ -48,15 +43,14 @@ impl<P: Port> Scheduler<P> {
         if slot >= self.plan.slot_count() {
             return Err(Refusal::NoSlot);
         }
-        match self.records.lowest(&RunsIn { slot }) {
-            None => Err(Refusal::NotRunning),
-            Some(i) => {
-                let ticket = self.records.get(i).ticket;
-                self.finish(i, Outcome::Finished);
-                self.settle();
-                Ok(ticket)
-            }
-        }
+        let place = self
+            .records
+            .lowest(|r| r.stage == Stage::Running { slot })
+            .ok_or(Refusal::NotRunning)?;
+        let ticket = self.records.get(place).ticket;
+        self.finish(place, Outcome::Finished);
+        self.settle();
+        Ok(ticket)
     }
 
     /// Passes a tick: the ticket written, if any, and how many requests ended.
@@ -66,19 +60,15 @@ impl<P: Port> Scheduler<P> {
     {
         let overrun = self.expire();
         self.settle();
-        match self.choose() {
-            None => {
-                self.records.age();
-                self.settle();
-                (None, overrun)
-            }
-            Some(i) => {
-                let ticket = self.records.get(i).ticket;
-                let flawed = self.write(i);
-                self.settle();
-                (Some(ticket), overrun + flawed)
-            }
-        }
+        let Some(place) = self.choose() else {
+            self.records.age();
+            self.settle();
+            return (None, overrun);
+        };
+        let ticket = self.records.get(place).ticket;
+        let flawed = self.write(place);
+        self.settle();
+        (Some(ticket), overrun + u32::from(flawed))
     }
 
     /// Tells what became of an ended request and empties its record.
@@ -86,43 +76,33 @@ impl<P: Port> Scheduler<P> {
         ensures answer { told Collected result ≡ collect_answer (state P.Port self.old) task ticket }
         ensures after { state P.Port self.new ≡ collect_after (state P.Port self.old) task ticket }
     {
-        if task >= self.plan.tasks() {
-            return Err(Refusal::NoTask);
+        let place = Place::of(task, &self.plan)?;
+        let r = self.records.get(place);
+        if r.stage == Stage::Empty {
+            return Err(Refusal::NoRequest);
         }
-        let r = self.records.get(task as usize);
-        match r.stage {
-            Stage::Empty => Err(Refusal::NoRequest),
-            Stage::Queued | Stage::Reserved { .. } | Stage::Running { .. } => {
-                if r.ticket != ticket {
-                    Err(Refusal::OtherTicket)
-                } else {
-                    Err(Refusal::Unended)
-                }
-            }
-            Stage::Ended { slot, outcome } => {
-                if r.ticket != ticket {
-                    return Err(Refusal::OtherTicket);
-                }
-                self.records.empty(task as usize);
-                Ok(Report {
-                    accelerator: r.accelerator,
-                    slot,
-                    waited: r.waited,
-                    written: r.written,
-                    run: r.run,
-                    outcome,
-                })
-            }
+        if r.ticket != ticket {
+            return Err(Refusal::OtherTicket);
         }
+        let Stage::Ended { slot, outcome } = r.stage else {
+            return Err(Refusal::Unended);
+        };
+        self.records.empty(place);
+        Ok(Report {
+            accelerator: r.accelerator,
+            slot,
+            waited: r.waited,
+            written: r.written,
+            run: r.run,
+            outcome,
+        })
     }
 
     /// Tells the stage of a task's record.
     pub(super) fn look(&self, task: u32) -> Result<Stage, Refusal>
         ensures { told Stands result ≡ stage_answer (state P.Port self.now) task }
     {
-        if task >= self.plan.tasks() {
-            return Err(Refusal::NoTask);
-        }
-        Ok(self.records.get(task as usize).stage)
+        let place = Place::of(task, &self.plan)?;
+        Ok(self.records.get(place).stage)
     }
 }

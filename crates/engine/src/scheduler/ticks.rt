@@ -1,15 +1,14 @@
 //! The parts of a tick.
 
-ghost use Rattle.std.specs.Prelude.{◌≡◌, ◌<◌, ◌≤◌, count_by};
+ghost use Rattle.std.specs.Prelude.{◌≡◌, ◌≤◌, count_by};
 ghost use Rattle.ports.specs.Calls.{feed_after};
-ghost use Rattle.model.specs.Records.{one, ended_stage, fed_record};
-ghost use Rattle.model.specs.Moves.{expired, expire, choose, stage_after, stage_fed, write};
-ghost use Rattle.engine.specs.Views.{Within};
+ghost use Rattle.model.specs.Records.{lowest, ended_stage, fed_record};
+ghost use Rattle.model.specs.Moves.{begun, expired, expire, choose, stage_after, stage_fed, write};
 ghost use Rattle.engine.specs.State.{state};
 
+use crate::places::Place;
 use crate::scheduler::Scheduler;
 use crate::scheduler::moves::slot_of;
-use crate::wanted::{Begun, Expired, IsReserved};
 use model::requests::{Outcome, Record, Stage};
 use ports::answers::Fed;
 use ports::port::Port;
@@ -22,45 +21,57 @@ impl<P: Port> Scheduler<P> {
         ensures after { state P.Port self.new ≡ expire (state P.Port self.old) }
     {
         let mut ended = 0;
-        while let Some(i) = self.records.lowest(&Expired { plan: &self.plan }) {
-            self.finish(i, Outcome::Overrun);
+        while let Some(place) = self.expired() {
+            self.finish(place, Outcome::Overrun);
             ended += 1;
         }
         ended
     }
 
-    /// Whom the port writes.
-    pub(super) fn choose(&self) -> Option<usize>
-        ensures is { result ≡ choose (state P.Port self.now) }
-        ensures within { Within result }
+    /// The request that is next to end as overrun.
+    fn expired(&self) -> Option<Place>
+        ensures { result ≡ lowest (expired (state P.Port self.now).layout) (state P.Port self.now).records }
     {
-        if !P::can_interrupt() {
-            if let Some(i) = self.records.lowest(&Begun) {
-                return Some(i);
-            }
-        }
-        self.records.lowest(&IsReserved)
+        self.records.lowest(|r| {
+            matches!(r.stage, Stage::Running { .. })
+                && r.run == self.plan.accelerator(r.accelerator as usize).run
+        })
     }
 
-    /// The request at place `i` is written, and the tick passes for all the others. Tells how many ended: one or none.
-    pub(super) fn write(&mut self, i: usize) -> u32
-        requires { i < 16 }
-        ensures count { result ≡ one (ended_stage (stage_fed (state P.Port self.old) i)) }
-        ensures few { result ≤ 1 }
-        ensures after { state P.Port self.new ≡ write (state P.Port self.old) i }
+    /// The request that the port began to write and has not written whole.
+    fn begun(&self) -> Option<Place>
+        ensures { result ≡ lowest begun (state P.Port self.now).records }
     {
-        let r = self.records.get(i);
-        let k = self.plan.accelerator(r.accelerator as usize).partition;
+        self.records.lowest(|r| matches!(r.stage, Stage::Reserved { .. }) && r.written > 0)
+    }
+
+    /// Whom the port writes.
+    pub(super) fn choose(&self) -> Option<Place>
+        ensures { result ≡ choose (state P.Port self.now) }
+    {
+        if !P::can_interrupt() {
+            if let Some(place) = self.begun() {
+                return Some(place);
+            }
+        }
+        self.records
+            .lowest(|r| matches!(r.stage, Stage::Reserved { .. }))
+    }
+
+    /// The request at `place` is written, and the tick passes for all the others. Tells whether it ended.
+    pub(super) fn write(&mut self, place: Place) -> bool
+        ensures ended { result ≡ ended_stage (stage_fed (state P.Port self.old) place) }
+        ensures after { state P.Port self.new ≡ write (state P.Port self.old) place }
+    {
+        let r = self.records.get(place);
         let stage = feed(&mut self.port, slot_of(r.stage));
         self.records.age();
-        self.records.put(i, written(r, stage));
-        match stage {
-            Stage::Ended { slot, .. } => {
-                self.free(k as usize, slot);
-                1
-            }
-            _ => 0,
-        }
+        self.records.put(place, written(r, stage));
+        let Stage::Ended { slot, .. } = stage else {
+            return false;
+        };
+        self.free(self.partition_of(&r), slot);
+        true
     }
 }
 
@@ -74,11 +85,8 @@ fn feed<P: Port>(port: &mut P, slot: u32) -> Stage
             slot,
             outcome: Outcome::Flaw { block, board },
         },
-        Ok(Fed::Wrote(_)) => match port.left(slot) {
-            Ok(0) => Stage::Running { slot },
-            _ => Stage::Reserved { slot },
-        },
-        Err(_) => Stage::Reserved { slot },
+        Ok(Fed::Wrote(_)) if port.left(slot) == Ok(0) => Stage::Running { slot },
+        _ => Stage::Reserved { slot },
     }
 }
 
@@ -87,11 +95,8 @@ fn written(r: Record, stage: Stage) -> Record
     ensures { result ≡ fed_record r stage }
 {
     Record {
-        accelerator: r.accelerator,
-        ticket: r.ticket,
         stage,
-        waited: r.waited,
         written: r.written.saturating_add(1),
-        run: r.run,
+        ..r
     }
 }

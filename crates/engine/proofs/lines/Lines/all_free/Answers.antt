@@ -1,19 +1,44 @@
-use Rattle.std.proofs.Common.{◌≡◌, ℕ, map, take, ap, ◌∙◌, arith}
-use Rattle.engine.specs.Views.{standing}
-use Rattle.std.proofs.lemmas.List.{length-set}
+use Rattle.std.proofs.Common.{ℕ, ◌+◌, ◌++◌, length, map, drop, get_or, ap, ◌∙◌, arith}
 use Rattle.plan.specs.Layouts.{layout}
-use Rattle.engine.proofs.StartLaws.{free_step, free_all}
+use Rattle.plan.specs.Rules.{none}
+use Rattle.plan.proofs.Questions.{kept}
+use Rattle.model.specs.States.{lines_from}
+use Rattle.engine.specs.Views.{standing}
+use Rattle.engine.proofs.StartLaws.{few_partitions, few_slots, free_step, free_all}
 use Rattle.engine.proofs.lines.Lines.all_free.Goals as goal
 
-pub loop-k-preserved : goal.loop-k-preserved
-loop-k-preserved c = (
-  length-set _ _ _ ∙ c.loop-k.invariant.0,
-  omega arith,
-  free_step c.loop-k.rows c.loop-k.k c.loop-k.from (layout c.args.plan.now).partitions _ c.loop-k.invariant.0 c.loop-k.invariant.2 c.numbered.result c.partition-slots.result (omega arith) (omega arith) c.partition-slots.ensures.is c.numbered.ensures,
-)
+pub loop-partition-init : goal.loop-partition-init
+loop-partition-init c = (ap length c.new-rows.ensures, omega arith, ap (λ rows. map standing rows ++ lines_from 0 c.partitions-partition-items.result.now) c.new-rows.ensures)
+
+pub numbered-requires : goal.numbered-requires
+numbered-requires c =
+    let p = c.args.plan.now in
+    let is = c.partitions-partition-items.ensures in
+    let i = c.loop-partition.partition-index in
+    (few_slots (layout p) (kept p) _ is i (omega arith), omega (arith, few_partitions (layout p) (kept p) _ is))
+
+pub push-requires : goal.push-requires
+push-requires c =
+    let p = c.args.plan.now in
+    (omega arith, omega (arith, few_partitions (layout p) (kept p) _ c.partitions-partition-items.ensures))
+
+pub overflow_add-from : goal.overflow_add-from
+overflow_add-from c =
+    let p = c.args.plan.now in
+    omega (arith, few_slots (layout p) (kept p) _ c.partitions-partition-items.ensures c.loop-partition.partition-index (omega arith), few_partitions (layout p) (kept p) _ c.partitions-partition-items.ensures)
+
+pub loop-partition-preserved : goal.loop-partition-preserved
+loop-partition-preserved c =
+    let p = c.args.plan.now in
+    let i = c.loop-partition.partition-index in
+    let ps = c.partitions-partition-items.result.now in (
+      c.push.ensures.len ∙ ap (λ (n : ℕ). n + 1) c.loop-partition.invariant.0,
+      omega (arith, c.loop-partition.invariant.1, few_slots (layout p) (kept p) ps c.partitions-partition-items.ensures i (omega arith)),
+      ap (λ rows. map standing rows ++ lines_from (c.loop-partition.from + (get_or ps i none).slots) (drop (i + 1) ps)) c.push.ensures.items
+          ∙ free_step c.loop-partition.rows.items c.numbered.result i c.loop-partition.from ps _ c.loop-partition.invariant.2 (omega arith) c.numbered.ensures,
+    )
 
 pub returns : goal.returns
 returns c =
-    let e : c.partition_count-count.result ≡ c.loop-k.k = omega arith in
-    ap (λ (n : ℕ). take n (map standing c.loop-k.rows)) e
-    ∙ free_all c.loop-k.rows c.loop-k.k c.loop-k.from (layout c.args.plan.now).partitions _ c.loop-k.invariant.0 c.loop-k.invariant.2 (omega (arith, c.partition_count-count.ensures.is))
+    free_all c.loop-partition.rows.items c.loop-partition.partition-index c.loop-partition.from c.partitions-partition-items.result.now _ c.loop-partition.invariant.2 (omega arith)
+    ∙ ap (lines_from 0) c.partitions-partition-items.ensures

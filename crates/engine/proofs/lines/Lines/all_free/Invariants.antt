@@ -1,11 +1,10 @@
-use Rattle.std.proofs.Common.{◌≡◌, ◌*◌, ◌≤◌, ◌++◌, map, length, take, drop}
-use Rattle.plan.specs.Layouts.{layout}
+use Rattle.std.proofs.Common.{◌≡◌, ◌*◌, ◌≤◌, ◌++◌, map, drop, length}
 use Rattle.model.specs.States.{lines_from}
 use Rattle.engine.specs.Views.{standing}
 use Rattle.engine.proofs.lines.Lines.all_free.Given as goal
 
-abbrev pub invariant-loop-k : goal.invariant-loop-k
-invariant-loop-k l =
-    (length l.rows ≡ 8)
-    × (l.from ≤ 8 * l.k)
-    × (take l.k (map standing l.rows) ++ lines_from l.from (drop l.k (layout l.plan).partitions) ≡ lines_from 0 (layout l.plan).partitions)
+abbrev pub invariant-loop-partition : goal.invariant-loop-partition
+invariant-loop-partition l =
+    (length l.rows.items ≡ l.partition-index)
+    × (l.from ≤ 8 * l.partition-index)
+    × (map standing l.rows.items ++ lines_from l.from (drop l.partition-index l.partition-items) ≡ lines_from 0 l.partition-items)

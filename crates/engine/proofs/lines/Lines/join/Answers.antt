@@ -1,9 +1,10 @@
+use Rattle.std.proofs.Common.{refl}
 use Rattle.model.specs.Moves.{joined}
-use Rattle.engine.proofs.LineLaws.{row_set, row_past}
+use Rattle.engine.proofs.LineLaws.{row_set, join_is}
 use Rattle.engine.proofs.lines.Lines.join.Goals as goal
 
-pub returns-then-k-self : goal.returns-then-k-self
-returns-then-k-self c = row_set c.args.self.now.rows c.args.self.now.count c.args.self.now.places c.args.self.now.few c.args.k _ _ (λ row. joined row c.args.slot) c.if-k-self.true c.join.ensures
-
-pub returns-else-k-self : goal.returns-else-k-self
-returns-else-k-self c = row_past c.args.self.now.rows c.args.self.now.count c.args.self.now.places c.args.self.now.few c.args.k _ c.if-k-self.false
+pub returns-in-Some : goal.returns-in-Some
+returns-in-Some c =
+    let pushed = c.try_push.ensures in
+    row_set _ c.args.k c.in-Some.line.now c.try_push.new.self (λ row. joined row c.args.slot) (c.in-Some.ensures.variant.0 refl) c.in-Some.ensures.value
+    (join_is _ _ c.args.slot c.try_push.result pushed.variant.0 pushed.ok pushed.err pushed.full)

@@ -1,9 +1,9 @@
-use Rattle.std.proofs.Common.{drop}
-use Rattle.engine.proofs.LineLaws.{row_set, row_past}
+use Rattle.std.proofs.Common.{drop, refl}
+use Rattle.engine.proofs.LineLaws.{row_set, leave_is}
 use Rattle.engine.proofs.lines.Lines.leave.Goals as goal
 
-pub returns-then-k-self : goal.returns-then-k-self
-returns-then-k-self c = row_set c.args.self.now.rows c.args.self.now.count c.args.self.now.places c.args.self.now.few c.args.k _ _ (drop 1) c.if-k-self.true c.leave.ensures
-
-pub returns-else-k-self : goal.returns-else-k-self
-returns-else-k-self c = row_past c.args.self.now.rows c.args.self.now.count c.args.self.now.places c.args.self.now.few c.args.k _ c.if-k-self.false
+pub returns-in-Some : goal.returns-in-Some
+returns-in-Some c =
+    let popped = c.pop_at.ensures in
+    row_set _ c.args.k c.in-Some.line.now c.pop_at.new.self (drop 1) (c.in-Some.ensures.variant.0 refl) c.in-Some.ensures.value
+    (leave_is _ _ c.pop_at.result popped.variant.1 popped.items popped.absent)

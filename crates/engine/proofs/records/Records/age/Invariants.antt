@@ -1,5 +1,7 @@
-use Rattle.engine.specs.Views.{AgedBelow}
+use Rattle.std.proofs.Common.{◌≡◌, ◌++◌, map, take, drop}
+use Rattle.model.specs.Records.{aged}
 use Rattle.engine.proofs.records.Records.age.Given as goal
 
-abbrev pub invariant-loop-i : goal.invariant-loop-i
-invariant-loop-i l = AgedBelow l.initial.self.table l.i l.self.table
+abbrev pub invariant-loop-record : goal.invariant-loop-record
+invariant-loop-record l =
+    l.record-items ≡ map aged (take l.record-index l.initial.record-items) ++ drop l.record-index l.initial.record-items

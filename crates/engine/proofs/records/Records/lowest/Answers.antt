@@ -1,22 +1,19 @@
-use Rattle.std.proofs.Common.{◌≡◌, ℕ, length, Option, refl, ap, ◌∙◌, add-one, arith}
-use Rattle.model.specs.Records.{lower, lowest_below}
+use Rattle.std.proofs.Common.{sym, refl, ◌∙◌}
+use Rattle.model.specs.Records.{at, lowest_below}
+use Rattle.engine.proofs.LowestLaws.{taken, passed}
+use Rattle.engine.proofs.records.Records.lowest.Goals.{then-wanted, else-wanted}
 use Rattle.engine.proofs.records.Records.lowest.Goals as goal
 
-pub loop-n-init : goal.loop-n-init
+pub loop-index-init : goal.loop-index-init
 unfolding lowest_below
-loop-n-init g c = (refl, tt)
+loop-index-init g c p says = refl
 
-pub loop-n-preserved : goal.loop-n-preserved
-unfolding lowest_below
-loop-n-preserved g c =
-    let p = g.W.Wanted.wanted c.args.wanted.now in
-    let xs = c.args.self.now.table in (
-      c.lower-best.ensures.is ∙ ap (λ (o : Option ℕ). lower p xs c.loop-n.n o) c.loop-n.invariant.0 ∙ rw add-one refl,
-      c.lower-best.ensures.within,
-    )
-
-pub returns : goal.returns
-returns g c =
+pub loop-index-preserved : goal.loop-index-preserved
+loop-index-preserved g c p says =
     let xs = c.args.self.now.table in
-    let n : c.loop-n.n ≡ length xs = omega (arith, c.args.self.now.places) in
-    record { is = c.loop-n.invariant.0 ∙ ap (λ (m : ℕ). lowest_below (g.W.Wanted.wanted c.args.wanted.now) xs m) n; within = c.loop-n.invariant.1 }
+    let n = c.loop-index.index in
+    let is = says (at xs n) c.wanted.result (record { shown = _; shows = refl; says = record { met = c.wanted.ensures } }) in
+    elim c.if-wanted.branch [
+      | then-wanted w ↦ w.found-is ∙ taken p xs n _ _ (c.loop-index.invariant p says) (sym w.if-wanted.true ∙ is) w.lower.ensures
+      | else-wanted w ↦ w.found-is ∙ passed p xs n _ (c.loop-index.invariant p says) (sym w.if-wanted.false ∙ is)
+    ]

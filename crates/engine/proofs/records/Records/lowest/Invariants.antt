@@ -1,7 +1,8 @@
-use Rattle.std.proofs.Common.{◌≡◌}
+use Rattle.std.proofs.Common.{◌≡◌, Bool}
+use Rattle.model.specs.declared.requests.Record.{Record}
 use Rattle.model.specs.Records.{lowest_below}
-use Rattle.engine.specs.Views.{Within}
+use Rattle.engine.specs.Views.{Says}
 use Rattle.engine.proofs.records.Records.lowest.Given as goal
 
-abbrev pub invariant-loop-n : goal.invariant-loop-n
-invariant-loop-n g l = (l.best ≡ lowest_below (g.W.Wanted.wanted l.wanted) l.self.table l.n) × Within l.best
+abbrev pub invariant-loop-index : goal.invariant-loop-index
+invariant-loop-index g l = (p : Record → Bool) → Says g.F.Fn l.wanted p → l.found ≡ lowest_below p l.self.table l.index

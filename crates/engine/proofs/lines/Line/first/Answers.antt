@@ -1,6 +1,0 @@
-use Rattle.std.proofs.Common.{arith}
-use Rattle.engine.proofs.LineLaws.{first_is}
-use Rattle.engine.proofs.lines.Line.first.Goals as goal
-
-pub returns-else-self-eq0 : goal.returns-else-self-eq0
-returns-else-self-eq0 c = first_is c.args.self.now.slots c.args.self.now.len c.args.self.now.places (λ e. omega arith)
