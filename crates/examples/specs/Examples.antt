@@ -107,7 +107,7 @@ told a slot waits writes runs o = Ok (Collected (record { accelerator = a; slot 
 abbrev pub in_turn : List Call
 in_turn = Request 0 0 ∷ Request 1 1 ∷ Request 1 1 ∷ Tick ∷ Tick ∷ Tick ∷ Done 0 ∷ Tick ∷ Collect 0 1 ∷ Tick ∷ Tick ∷ Tick ∷ Collect 1 2 ∷ []
 
--- FRED's figure of four accelerators: requests for 0, 2 and 3 before ticks 1, 2 and 3; 0 is done and collected before tick 9;
+-- four accelerators: requests for 0, 2 and 3 before ticks 1, 2 and 3; 0 is done and collected before tick 9;
 -- 1 is requested before tick 10; 2 is done before tick 11; at last all are collected
 abbrev pub four_requests : List Call
 four_requests =
