@@ -10,14 +10,15 @@ use Rattle.model.specs.declared.refusals.Refusal.TheVariants.{NoTask, NoAccelera
 use Rattle.model.specs.declared.calls.Call.{Call}
 use Rattle.model.specs.declared.calls.Call.TheVariants.{Request, Tick, Collect}
 use Rattle.model.specs.declared.calls.Answer.{Answer}
-use Rattle.model.specs.declared.calls.Answer.TheVariants.{Ticket, Ticked, Completed, Collected, Stands, Refused}
+use Rattle.model.specs.declared.calls.Answer.TheVariants.{Ticket, Ticked, Completed, Collected, Stands}
 use Rattle.model.specs.Records.{one}
 use Rattle.model.specs.States.{State}
 use Rattle.model.specs.Calls.{judged, collect_answer}
 use Rattle.model.specs.Runs.{Event, Trace}
 use Rattle.model.specs.Promises.{collectable, too_early, holds, unended, names, collects, given, collected, Since, Told, ticks, Counts, Counted, Sound}
 use Rattle.model.specs.Laws.{Performed}
-use Rattle.model.proofs.Traces.{since_inv, none_since, request_inj, refused_ticket}
+use Rattle.model.proofs.Stages.{no_true}
+use Rattle.model.proofs.Traces.{since_inv, none_since, request_inj, plain_ticket, plain_report}
 use Rattle.model.proofs.Sounds.{sound}
 use Rattle.claims.specs.declared.Claim.{Claim}
 use Rattle.claims.specs.Claims.{Names}
@@ -40,7 +41,7 @@ since_given (Since.there e x) = omega (arith, since_given x)
 since_once : {i j a b t : ℕ} {l m : Trace} (h : Trace) → given h t ≤ 1 → Since i a t l h → Since j b t m h → i ≡ j
 since_once [] g x y = absurd (none_since x)
 since_once {i} {j} {a} {b} {t} (e ∷ h) g x y =
-    let now : e.answer ≡ Ticket t → 1 ≤ given h t → ⊥ = λ z more. omega (arith, ap (λ y. Rattle.model.specs.Promises.gives y t) z, one_same t) in
+    let now : e.answer ≡ Ok (Ticket t) → 1 ≤ given h t → ⊥ = λ z more. omega (arith, ap (λ y. Rattle.model.specs.Promises.gives y t) z, one_same t) in
     ⊎_elim
     (λ p. ⊎_elim (λ q. (request_inj i a j b (sym p.1 ∙ q.1)).0) (λ q. absurd (now p.2 (since_given q.2))) (since_inv e h y))
     (λ p. ⊎_elim (λ q. absurd (now q.2 (since_given p.2))) (λ q. since_once h (omega arith) p.2 q.2) (since_inv e h y))
@@ -48,21 +49,21 @@ since_once {i} {j} {a} {b} {t} (e ∷ h) g x y =
 
 -- ---- a call keeps the claims whose tickets it does not collect
 
-abbrev event : State → Call → Answer → Event
+abbrev event : State → Call → Result Answer Refusal → Event
 event s c a = record { before = s; call = c; answer = a }
 
 grown : (k t n x : ℕ) → k ≤ t + n → k ≤ x + t + n
 grown k t n x h = omega arith
 
-quiet : (c : Call) (a : Answer) (t : ℕ) → names c t ≡ 0 → collects c a t ≡ 0
-quiet c (Ticket u) t e = refl
-quiet c (Ticked o n) t e = refl
-quiet c (Completed u) t e = refl
-quiet c (Collected r) t e = e
-quiet c (Stands σ) t e = refl
-quiet c (Refused why) t e = refl
+quiet : (c : Call) (a : Result Answer Refusal) (t : ℕ) → names c t ≡ 0 → collects c a t ≡ 0
+quiet c (Ok (Ticket u)) t e = refl
+quiet c (Ok (Ticked o n)) t e = refl
+quiet c (Ok (Completed u)) t e = refl
+quiet c (Ok (Collected r)) t e = e
+quiet c (Ok (Stands σ)) t e = refl
+quiet c (Err why) t e = refl
 
-module _ {s s' : State} {c : Call} {a : Answer} (p : Performed s c a s') where
+module _ {s s' : State} {c : Call} {a : Result Answer Refusal} (p : Performed s c a s') where
   abbrev runs_on : Run s → Run s'
   runs_on r = record { layout = r.layout; interrupts = r.interrupts; first = r.first; trace = event s c a ∷ r.trace; reached = p.runs r.layout r.interrupts r.first r.trace r.reached }
 
@@ -95,7 +96,7 @@ module _ {s s' : State} {c : Call} {a : Answer} (p : Performed s c a s') where
   keeps_all none d n _ w = keeps d n (quiet c a d.ticket (none d.ticket)) w
 
 -- a tick that a request is unended for is one tick less to wait
-pub keeps_tick : {s s' : State} {a : Answer} (p : Performed s Tick a s') (d : Claim) (n : ℕ) → unended s d.task d.ticket ≡ true → Awaited s d (n + 1) → Awaited s' d n
+pub keeps_tick : {s s' : State} {a : Result Answer Refusal} (p : Performed s Tick a s') (d : Claim) (n : ℕ) → unended s d.task d.ticket ≡ true → Awaited s d (n + 1) → Awaited s' d n
 keeps_tick {s} {s'} {a} p d n alive w =
     let e : one (unended s d.task d.ticket) ≡ 1 = ap one alive in
     let less : (k t x : ℕ) → x ≡ 1 → k ≤ t + (n + 1) → k ≤ x + t + n = λ k t x y h. omega arith in
@@ -103,7 +104,7 @@ keeps_tick {s} {s'} {a} p d n alive w =
 
 -- ---- requests
 
-module _ {s s' : State} {task a t : ℕ} (p : Performed s (Request task a) (Ticket t) s') where
+module _ {s s' : State} {task a t : ℕ} (p : Performed s (Request task a) (Ok (Ticket t)) s') where
   awaited : Run s → Awaited s' (record { task = task; ticket = t }) (stay_in s' a)
   awaited r =
       let h = r.trace in
@@ -119,8 +120,8 @@ module _ {s s' : State} {task a t : ℕ} (p : Performed s (Request task a) (Tick
       }
 
   -- the tests that an accepted request passed
-  passed : (why : Refusal) (rest : Option Refusal) (b : Bool) → Ticket t ≡ judged (cond b (Some why) rest) (Ticket s.next) → (b ≡ false) × (Ticket t ≡ judged rest (Ticket s.next))
-  passed why rest true e = absurd (refused_ticket why t (sym e))
+  passed : (why : Refusal) (rest : Option Refusal) (b : Bool) → Ok (Ticket t) ≡ judged (cond b (Some why) rest) (Ticket s.next) → (b ≡ false) × (Ok (Ticket t) ≡ judged rest (Ticket s.next))
+  passed why rest true e = plain_ticket (Err why) t refl (sym e)
   passed why rest false e = (refl, e)
 
   task_in : task < s.layout.tasks
@@ -139,17 +140,17 @@ module _ {s s' : State} {task a t : ℕ} (p : Performed s (Request task a) (Tick
 
 -- ---- collections
 
-collects_it : (a : Answer) → collectable a ≡ true → too_early a ≡ false → (r : Report) × (a ≡ Collected r)
-collects_it (Ticket t) h u = let z : ◌≡◌ {A = ℕ} 0 1 = cc in absurd (omega arith)
-collects_it (Ticked o n) h u = let z : ◌≡◌ {A = ℕ} 0 1 = cc in absurd (omega arith)
-collects_it (Completed t) h u = let z : ◌≡◌ {A = ℕ} 0 1 = cc in absurd (omega arith)
-collects_it (Collected r) h u = (r, refl)
-collects_it (Stands σ) h u = let z : ◌≡◌ {A = ℕ} 0 1 = cc in absurd (omega arith)
-collects_it (Refused why) h u = let z : ◌≡◌ {A = ℕ} 0 1 = cc in absurd (omega arith)
+collects_it : (a : Result Answer Refusal) → collectable a ≡ true → too_early a ≡ false → (r : Report) × (a ≡ Ok (Collected r))
+collects_it (Ok (Ticket t)) h u = no_true h
+collects_it (Ok (Ticked o n)) h u = no_true h
+collects_it (Ok (Completed t)) h u = no_true h
+collects_it (Ok (Collected r)) h u = (r, refl)
+collects_it (Ok (Stands σ)) h u = no_true h
+collects_it (Err why) h u = let z : ◌≡◌ {A = ℕ} 0 1 = cc in absurd (omega arith)
 
-accepted_told : (r : Result Report Refusal) (q : Report) → told Collected r ≡ Collected q → (x : Report) × (r ≡ Ok x)
+accepted_told : (r : Result Report Refusal) (q : Report) → told Collected r ≡ Ok (Collected q) → (x : Report) × (r ≡ Ok x)
 accepted_told (Ok x) q e = (x, refl)
-accepted_told (Err why) q e = let z : ◌≡◌ {A = ℕ} 0 1 = cc in absurd (omega arith)
+accepted_told (Err why) q e = plain_report (Err why) q refl e
 
 -- what is not collected is held
 held : {h : Trace} {s : State} {task t : ℕ} {c : Counts} → Counted h s task t c → collected h t ≡ 0 → holds s task t ≡ true
@@ -180,21 +181,21 @@ module _ {s s' : State} {c : Claim} {r : Result Report Refusal} (p : Performed s
   returned why n e w = keeps p c n (ap (λ (x : Result Report Refusal). collects (Collect c.task c.ticket) (told Collected x) c.ticket) e) w
 
 -- the tickets of other tasks stay
-keeps_others : {s s' : State} {i u : ℕ} (a : Answer) (p : Performed s (Collect i u) a s') → Keeps (other_than i) s s'
-keeps_others (Ticket t) p d n ne w = keeps p d n refl w
-keeps_others (Ticked o m) p d n ne w = keeps p d n refl w
-keeps_others (Completed t) p d n ne w = keeps p d n refl w
-keeps_others {s} {s'} {i} {u} (Collected r) p d n ne w =
+keeps_others : {s s' : State} {i u : ℕ} (a : Result Answer Refusal) (p : Performed s (Collect i u) a s') → Keeps (other_than i) s s'
+keeps_others (Ok (Ticket t)) p d n ne w = keeps p d n refl w
+keeps_others (Ok (Ticked o m)) p d n ne w = keeps p d n refl w
+keeps_others (Ok (Completed t)) p d n ne w = keeps p d n refl w
+keeps_others {s} {s'} {i} {u} (Ok (Collected r)) p d n ne w =
     ⊎_elim
     (λ e. let k = (p.sound w.run.layout w.run.interrupts w.run.first w.run.trace w.run.reached).kept in
     let mine = k.told_own i u r (Told.here s) in
-    let h : Trace = event s (Collect i u) (Collected r) ∷ w.run.trace in
+    let h : Trace = event s (Collect i u) (Ok (Collected r)) ∷ w.run.trace in
     let same : Since i r.accelerator d.ticket mine.0 h = subst (λ (t : ℕ). Since i r.accelerator t mine.0 h) e mine.1 in
     absurd (ne (since_once h (k.given_once d.ticket) (Since.there _ w.since) same)))
     (λ e. keeps p d n (cond-false (eqb u d.ticket) 1 0 (ne_eqb u d.ticket e)) w)
     (cases_eq u d.ticket)
-keeps_others (Stands σ) p d n ne w = keeps p d n refl w
-keeps_others (Refused why) p d n ne w = keeps p d n refl w
+keeps_others (Ok (Stands σ)) p d n ne w = keeps p d n refl w
+keeps_others (Err why) p d n ne w = keeps p d n refl w
 
 pub gives_back : {s s' : State} {c : Claim} {r : Result Report Refusal} → Performed s (Collect c.task c.ticket) (told Collected r) s' → GivesBack s c s' r
 gives_back p = record { keeps = keeps_others _ p; goes_on = onward p; accepted = taken p; in_time = λ w. taken p 0 w (over w refl); refused = returned p }

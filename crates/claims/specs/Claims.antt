@@ -12,7 +12,7 @@ abbrev pub Spent : Claim → Type 0
 Spent c = c.task ≡ 16
 
 -- a claim is the answer of a request with its ticket
-abbrev pub claimed : Result Claim Refusal → Answer
+abbrev pub claimed : Result Claim Refusal → Result Answer Refusal
 claimed r = told (λ (c : Claim). Ticket c.ticket) r
 
 -- a claim that is handed over names the task that asked, and is not spent

@@ -17,7 +17,8 @@ use model::refusals::Refusal;
 use model::requests::Report;
 use ports::port::Port;
 
-/// The number that a spent claim has for its task: no plan has a task 16.
+/// The number that a spent claim has for its task: no plan has a task 16. (A claim is to be two numbers, with no room for
+/// an `Option`.)
 const NO_TASK: u32 = 16;
 
 /// The right to collect a request: its task and its ticket.
@@ -45,10 +46,8 @@ pub fn request_claim<P: Port>(
     ensures names { IfOk result (Names task) }
     ensures handed_over { HandsOver (state P.Port scheduler.old) accelerator (state P.Port scheduler.new) result }
 {
-    match scheduler.request(task, accelerator) {
-        Ok(ticket) => Ok(Claim { task, ticket }),
-        Err(refusal) => Err(refusal),
-    }
+    let ticket = scheduler.request(task, accelerator)?;
+    Ok(Claim { task, ticket })
 }
 
 /// As `collect` of the scheduler, by the claim. Accepted, it spends the claim; refused, it leaves it as it was.
@@ -62,9 +61,7 @@ pub fn collect_claim<P: Port>(
     ensures claim { claim.new ≡ after claim.old result }
     ensures given_back { GivesBack (state P.Port scheduler.old) claim.old (state P.Port scheduler.new) result }
 {
-    let answer = scheduler.collect(claim.task, claim.ticket);
-    if answer.is_ok() {
-        claim.task = NO_TASK;
-    }
-    answer
+    let report = scheduler.collect(claim.task, claim.ticket)?;
+    claim.task = NO_TASK;
+    Ok(report)
 }

@@ -10,11 +10,12 @@ use Rattle.ports.specs.Calls.{new_port, flaw_after}
 use Rattle.ports.specs.Meaning.{Meaning}
 use Rattle.model.specs.declared.requests.Outcome.{Outcome}
 use Rattle.model.specs.declared.requests.Outcome.TheVariants.{Finished, Overrun, Flaw}
+use Rattle.model.specs.declared.refusals.Refusal.{Refusal}
 use Rattle.model.specs.declared.refusals.Refusal.TheVariants.{Uncollected, NoTicketLeft}
 use Rattle.model.specs.declared.calls.Call.{Call}
 use Rattle.model.specs.declared.calls.Call.TheVariants.{Request, Tick, Done, Collect}
 use Rattle.model.specs.declared.calls.Answer.{Answer}
-use Rattle.model.specs.declared.calls.Answer.TheVariants.{Ticket, Ticked, Completed, Collected, Stands, Refused}
+use Rattle.model.specs.declared.calls.Answer.TheVariants.{Ticket, Ticked, Completed, Collected, Stands}
 use Rattle.model.specs.States.{State, start}
 use Rattle.model.specs.Calls.{answer, after}
 
@@ -28,28 +29,28 @@ text (l ∷ ls) = l ++ (10 ∷ text ls)
 pub data Example : Type 0 where
   refused : List ℕ → ℕ → ℕ → ℕ → Example
   rows : List ℕ → (interrupts : Bool) → (rate : ℕ) → List Row → Example
-  answered : List ℕ → (interrupts : Bool) → Meaning → (first : ℕ) → List Call → List Answer → Example
+  answered : List ℕ → (interrupts : Bool) → Meaning → (first : ℕ) → List Call → List (Result Answer Refusal) → Example
   waited : List ℕ → (interrupts : Bool) → (rate : ℕ) → List Call → List (ℕ × ℕ) → Example
 
 -- the answers of calls made one after the other
-abbrev pub answers : State → List Call → List Answer
+abbrev pub answers : State → List Call → List (Result Answer Refusal)
 answers s [] = []
 answers s (c ∷ cs) = answer s c ∷ answers (after s c) cs
 
 -- accelerator and waited ticks of what is collected
-abbrev pub wait_told : Answer → List (ℕ × ℕ)
-wait_told (Ticket t) = []
-wait_told (Ticked o n) = []
-wait_told (Completed t) = []
-wait_told (Collected r) = (r.accelerator, r.waited) ∷ []
-wait_told (Stands σ) = []
-wait_told (Refused why) = []
+abbrev pub wait_told : Result Answer Refusal → List (ℕ × ℕ)
+wait_told (Ok (Ticket t)) = []
+wait_told (Ok (Ticked o n)) = []
+wait_told (Ok (Completed t)) = []
+wait_told (Ok (Collected r)) = (r.accelerator, r.waited) ∷ []
+wait_told (Ok (Stands σ)) = []
+wait_told (Err why) = []
 
-abbrev pub waits_told : List Answer → List (ℕ × ℕ)
+abbrev pub waits_told : List (Result Answer Refusal) → List (ℕ × ℕ)
 waits_told [] = []
 waits_told (a ∷ as') = wait_told a ++ waits_told as'
 
-abbrev pub HasAnswers : Result Layout Fault → Bool → Meaning → ℕ → List Call → List Answer → Type 0
+abbrev pub HasAnswers : Result Layout Fault → Bool → Meaning → ℕ → List Call → List (Result Answer Refusal) → Type 0
 HasAnswers (Ok l) interrupts port first cs as' = answers (start l interrupts first port) cs ≡ as'
 HasAnswers (Err f) interrupts port first cs as' = ⊥
 
@@ -99,14 +100,14 @@ abbrev pub one_slot : List ℕ
 one_slot = text (codes "c 10 1 2 2" ∷ codes "p 10 1 10" ∷ codes "a 0 0 10 2" ∷ codes "a 0 1 4 1" ∷ [])
 
 -- what a collect tells
-abbrev pub told : ℕ → ℕ → ℕ → ℕ → ℕ → Outcome → Answer
-told a slot waits writes runs o = Collected (record { accelerator = a; slot = slot; waited = waits; written = writes; run = runs; outcome = o })
+abbrev pub told : ℕ → ℕ → ℕ → ℕ → ℕ → Outcome → Result Answer Refusal
+told a slot waits writes runs o = Ok (Collected (record { accelerator = a; slot = slot; waited = waits; written = writes; run = runs; outcome = o }))
 
 -- the second request of task 1 comes too early; accelerator 0 is done, accelerator 1 overruns
 abbrev pub in_turn : List Call
 in_turn = Request 0 0 ∷ Request 1 1 ∷ Request 1 1 ∷ Tick ∷ Tick ∷ Tick ∷ Done 0 ∷ Tick ∷ Collect 0 1 ∷ Tick ∷ Tick ∷ Tick ∷ Collect 1 2 ∷ []
 
--- FRED's figure of four accelerators: requests for 0, 2 and 3 before ticks 1, 2 and 3; 0 is done and collected before tick 9;
+-- four accelerators: requests for 0, 2 and 3 before ticks 1, 2 and 3; 0 is done and collected before tick 9;
 -- 1 is requested before tick 10; 2 is done before tick 11; at last all are collected
 abbrev pub four_requests : List Call
 four_requests =
@@ -126,13 +127,13 @@ examples =
     refused overfull 4 2 0 ∷
     refused [] 2 1 0 ∷
     answered one_slot true (new_port 5) 1 in_turn
-    (Ticket 1 ∷ Ticket 2 ∷ Refused Uncollected ∷ Ticked (Some 1) 0 ∷ Ticked (Some 1) 0 ∷ Ticked None 0 ∷ Completed 1 ∷
-    Ticked (Some 2) 0 ∷ told 0 0 0 2 1 Finished ∷ Ticked (Some 2) 0 ∷ Ticked None 0 ∷ Ticked None 1 ∷ told 1 0 3 2 1 Overrun ∷ []) ∷
+    (Ok (Ticket 1) ∷ Ok (Ticket 2) ∷ Err Uncollected ∷ Ok (Ticked (Some 1) 0) ∷ Ok (Ticked (Some 1) 0) ∷ Ok (Ticked None 0) ∷ Ok (Completed 1) ∷
+    Ok (Ticked (Some 2) 0) ∷ told 0 0 0 2 1 Finished ∷ Ok (Ticked (Some 2) 0) ∷ Ok (Ticked None 0) ∷ Ok (Ticked None 1) ∷ told 1 0 3 2 1 Overrun ∷ []) ∷
     waited two_partitions true 10 four_requests ((0, 0) ∷ (2, 3) ∷ (1, 2) ∷ (3, 8) ∷ []) ∷
     waited two_partitions false 10 four_requests ((0, 0) ∷ (2, 3) ∷ (1, 0) ∷ (3, 11) ∷ []) ∷
     -- one ticket is left
-    answered one_slot true (new_port 5) 4294967295 (Request 0 0 ∷ Request 1 1 ∷ []) (Ticket 4294967295 ∷ Refused NoTicketLeft ∷ []) ∷
+    answered one_slot true (new_port 5) 4294967295 (Request 0 0 ∷ Request 1 1 ∷ []) (Ok (Ticket 4294967295) ∷ Err NoTicketLeft ∷ []) ∷
     -- block 9 is flawed: the first feed writes 5 blocks, the second reports it
     answered one_slot true (flaw_after (new_port 5) 0 9) 1 (Request 0 0 ∷ Tick ∷ Tick ∷ Collect 0 1 ∷ [])
-    (Ticket 1 ∷ Ticked (Some 1) 0 ∷ Ticked (Some 1) 1 ∷ told 0 0 0 2 0 (Flaw 9 0) ∷ []) ∷
+    (Ok (Ticket 1) ∷ Ok (Ticked (Some 1) 0) ∷ Ok (Ticked (Some 1) 1) ∷ told 0 0 0 2 0 (Flaw 9 0) ∷ []) ∷
     []

@@ -30,7 +30,7 @@ goes_then a b = record {
 }
 
 -- a call that names no ticket
-pub goes_by : {s s' : State} {c : Call} {a : Answer} → Performed s c a s' → ((t : ℕ) → names c t ≡ 0) → GoesOn s s'
+pub goes_by : {s s' : State} {c : Call} {a : Result Answer Refusal} → Performed s c a s' → ((t : ℕ) → names c t ≡ 0) → GoesOn s s'
 goes_by p none = record { keeps = keeps_all p none; goes_on = onward p }
 
 -- ---- what the stage tells of a claim
@@ -73,7 +73,7 @@ module _ {s s₁ s₂ : State} {c : Claim} {task left : ℕ} (named : c.task ≡
   pub watched_end : ended_in s₂ task ≡ true → Watched s c s₂
   watched_end e = record { over = alive ∙ ap not e; awaits = (left, watched); others = goes_then h.others more }
 
-  pub watched_on : {s₃ : State} {a : Answer} (less : ℕ) → left ≡ less + 1 → ended_in s₂ task ≡ false → Performed s₂ Tick a s₃ → Watching s c less s₃
+  pub watched_on : {s₃ : State} {a : Result Answer Refusal} (less : ℕ) → left ≡ less + 1 → ended_in s₂ task ≡ false → Performed s₂ Tick a s₃ → Watching s c less s₃
   watched_on less b e p = record {
     awaited = keeps_tick p c less (alive ∙ ap not e) (subst (Awaited s₂ c) b watched);
     others = goes_then (goes_then h.others more) (goes_by p (λ t. refl));

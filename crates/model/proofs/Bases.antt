@@ -1,5 +1,5 @@
 -- What every run keeps of plan, records and tickets, and the promise on tickets.
-use Rattle.std.proofs.Common.{◌≡◌, ℕ, suc, ◌+◌, ◌<◌, Bool, true, false, cond, eqb, leb, List, [], ◌∷◌, length, sum_by, sym, refl, ap, ◌∙◌, subst, subst₂, ⊎_elim, arith}
+use Rattle.std.proofs.Common.{◌≡◌, ℕ, suc, ◌+◌, ◌<◌, Bool, true, false, cond, eqb, leb, List, [], ◌∷◌, length, sum_by, sym, refl, ap, ◌∙◌, subst, subst₂, ⊎_elim, Result, Ok, arith}
 use Rattle.std.specs.List.{range_with_len}
 use Rattle.std.proofs.lemmas.List.{get_or_past}
 use Rattle.std.proofs.lemmas.Bool.{cases_lt, cases_Bool, eqb-true, lt-leb, and_parts, cond-false}
@@ -12,6 +12,7 @@ use Rattle.model.specs.declared.requests.Outcome.TheVariants.{Finished}
 use Rattle.model.specs.declared.requests.Record.{Record}
 use Rattle.model.specs.declared.calls.Call.{Call}
 use Rattle.model.specs.declared.calls.Call.TheVariants.{Request, Collect}
+use Rattle.model.specs.declared.refusals.Refusal.{Refusal}
 use Rattle.model.specs.declared.calls.Answer.{Answer}
 use Rattle.model.specs.declared.calls.Answer.TheVariants.{Ticket, Collected}
 use Rattle.model.specs.Records.{blank, at, held_stage, one}
@@ -56,7 +57,7 @@ held_parts true c d e = no_true e
 held_parts false true d e = (refl, e)
 held_parts false false d e = no_true e
 
-abbrev pub event : State → Call → Answer → Event
+abbrev pub event : State → Call → Result Answer Refusal → Event
 event s c a = record { before = s; call = c; answer = a }
 
 module _ {l : Layout} {k : Bool} {h : Trace} where
@@ -84,7 +85,7 @@ module _ {l : Layout} {k : Bool} {h : Trace} where
   few s task b c = omega (arith, tasks_within l b.rules, c, ap (λ (x : Layout). x.tasks) b.laid)
 
   -- what a request leaves before it is settled
-  pub base_enter : (s : State) (task a : ℕ) → Base l k h s → Accepts s task a → Base l k (event s (Request task a) (Ticket s.next) ∷ h) (enter s task a)
+  pub base_enter : (s : State) (task a : ℕ) → Base l k h s → Accepts s task a → Base l k (event s (Request task a) (Ok (Ticket s.next)) ∷ h) (enter s task a)
   base_enter s task a b c =
       record {
         rules = b.rules;
@@ -97,7 +98,7 @@ module _ {l : Layout} {k : Bool} {h : Trace} where
         tally = tally_enter s task a b.tickets b.tally (few s task b c.task_in) c.free;
       }
 
-  base_empty : (s : State) (task t : ℕ) → Base l k h s → Collects s task t → Base l k (event s (Collect task t) (Collected (report (at s.records task))) ∷ h) (empty s task)
+  base_empty : (s : State) (task t : ℕ) → Base l k h s → Collects s task t → Base l k (event s (Collect task t) (Ok (Collected (report (at s.records task)))) ∷ h) (empty s task)
   base_empty s task t b c =
       record {
         rules = b.rules;
@@ -120,7 +121,7 @@ ends_run s slot i f = record { there = f.within; runs = (and_parts _ _ f.has).0 
 pub base_finish : {l : Layout} {k : Bool} {h : Trace} (s : State) (i : ℕ) (o : Outcome) → Ends s i → Base l k h s → Base l k h (finish s i o)
 base_finish s i o e b = base_way s (finish s i o) b (Way.ends i o e Way.none)
 
-base_step : {l : Layout} {k : Bool} {h : Trace} (s : State) (c : Call) (a : Answer) (s' : State) → Base l k h s → Happened s c a s' → Base l k (event s c a ∷ h) s'
+base_step : {l : Layout} {k : Bool} {h : Trace} (s : State) (c : Call) (a : Result Answer Refusal) (s' : State) → Base l k h s → Happened s c a s' → Base l k (event s c a ∷ h) s'
 base_step s c a s' b (Happened.refused _ r q) = base_quiet _ s (λ t. refl) (λ t. refl) b
 base_step s c a s' b (Happened.entered task i x) = base_settle (enter s task i) (base_enter s task i b x)
 base_step s c a s' b Happened.ticked = base_quiet _ (tick_after s) (λ t. refl) (λ t. refl) (base_tick s b)
@@ -135,8 +136,8 @@ base_start {l} {k} {first} st =
     subst (Base l k []) (sym st.is)
     (record { rules = st.rules; laid = refl; kind = refl; rows = lines_length 0 l.partitions; tickets = tickets_start l first st.low; tally = tally_start first })
 
-pub happens : (s : State) (c : Call) (a : Answer) (s' : State) → a ≡ answer s c → s' ≡ after s c → Happened s c a s'
-happens s c a s' says leaves = subst₂ (λ (x : Answer) (y : State). Happened s c x y) (sym says) (sym leaves) (happened s c)
+pub happens : (s : State) (c : Call) (a : Result Answer Refusal) (s' : State) → a ≡ answer s c → s' ≡ after s c → Happened s c a s'
+happens s c a s' says leaves = subst₂ (λ (x : Result Answer Refusal) (y : State). Happened s c x y) (sym says) (sym leaves) (happened s c)
 
 pub base_reached : {l : Layout} {k : Bool} {first : ℕ} {h : Trace} {s : State} → Reached l k first h s → Base l k h s
 base_reached (Reached.started st) = base_start st

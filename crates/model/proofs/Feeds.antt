@@ -1,5 +1,5 @@
 -- A tick writes for whom the rules of the port say, and an image goes on where it stopped.
-use Rattle.std.proofs.Common.{◌≡◌, ℕ, ◌+◌, ◌*◌, ◌<◌, ◌≤◌, Bool, true, false, cond, ◌&&◌, eqb, List, map, length, Some, None, Option, sym, refl, ap, ◌∙◌, subst, ⊎_elim, mul-one, mul-add, arith}
+use Rattle.std.proofs.Common.{◌≡◌, ℕ, ◌+◌, ◌*◌, ◌<◌, ◌≤◌, Bool, true, false, cond, ◌&&◌, eqb, List, map, length, Some, None, Option, sym, refl, ap, ◌∙◌, subst, ⊎_elim, mul-one, mul-add, Result, arith}
 use Rattle.std.proofs.lemmas.List.{get_or-map, length-map, length-set}
 use Rattle.std.proofs.lemmas.Bool.{cases_eq, cases_lt, cases_Bool, eq-eqb, ne_eqb, and_parts, both_ways, cond-true, cond-false}
 use Rattle.plan.specs.Rules.{Layout}
@@ -9,6 +9,7 @@ use Rattle.model.specs.declared.requests.Outcome.TheVariants.{Finished}
 use Rattle.model.specs.declared.requests.Stage.TheVariants.{Reserved, Running, Ended}
 use Rattle.model.specs.declared.requests.Record.{Record}
 use Rattle.model.specs.declared.calls.Call.{Call}
+use Rattle.model.specs.declared.refusals.Refusal.{Refusal}
 use Rattle.model.specs.declared.calls.Answer.{Answer}
 use Rattle.model.specs.Records.{blank, at, one, held_stage, reserved_stage, running_stage, unended_stage, slot_of, staged, aged, fed_record, new}
 use Rattle.model.specs.States.{State, part}
@@ -89,17 +90,17 @@ written_advance rate s md (Some i) ch j c hd =
     omega (arith, old, ap one (ne_eqb r.ticket (at rs j).ticket (λ z. ne (sym (md.placed.tickets.apart i j few c held hd z))))))
 
 -- what a call makes of a reserved request: its accelerator stays, and it has one written tick more if the call tells that it was written
-pub record Went (s : State) (a : Answer) (s' : State) (i : ℕ) : Type 0 where
+pub record Went (s : State) (a : Result Answer Refusal) (s' : State) (i : ℕ) : Type 0 where
   pub accelerator : (at s'.records i).accelerator ≡ (at s.records i).accelerator
   pub written : (at s'.records i).written ≡ (at s.records i).written + one (tells_written a (at s.records i).ticket)
 
 -- settling, after a change that left the record at i as it was
-went_settle : (s s₁ : State) (a : Answer) (i : ℕ) → length s₁.lines ≡ length s₁.layout.partitions → i < length s₁.records → (at s₁.records i).accelerator ≡ (at s.records i).accelerator → (at s₁.records i).written ≡ (at s.records i).written → tells_written a (at s.records i).ticket ≡ false → Went s a (settle s₁) i
+went_settle : (s s₁ : State) (a : Result Answer Refusal) (i : ℕ) → length s₁.lines ≡ length s₁.layout.partitions → i < length s₁.records → (at s₁.records i).accelerator ≡ (at s.records i).accelerator → (at s₁.records i).written ≡ (at s.records i).written → tells_written a (at s.records i).ticket ≡ false → Went s a (settle s₁) i
 went_settle s s₁ a i rows b acc wr none =
     let w = way_settle s₁ rows in
     record { accelerator = ((same_way w).each i b).accelerator ∙ acc; written = (let z : (at (settle s₁).records i).written ≡ (at s.records i).written + one (tells_written a (at s.records i).ticket) = omega (arith, written_way w i, wr, ap one none) in z) }
 
-pub went_step : (rate : ℕ) (s : State) (c : Call) (a : Answer) (s' : State) → Invariant rate s → Happened s c a s' → (i : ℕ) → i < 16 → reserved_stage (at s.records i).stage ≡ true → Went s a s' i
+pub went_step : (rate : ℕ) (s : State) (c : Call) (a : Result Answer Refusal) (s' : State) → Invariant rate s → Happened s c a s' → (i : ℕ) → i < 16 → reserved_stage (at s.records i).stage ≡ true → Went s a s' i
 went_step rate s c a s' md (Happened.refused _ r q) i d e = record { accelerator = refl; written = omega arith }
 went_step rate s c a s' md (Happened.entered task x ac) i d e =
     let b = md.placed in
@@ -141,7 +142,7 @@ went_step rate s c a s' md (Happened.asked task) i d e = record { accelerator = 
 
 -- ---- the image goes on
 
-module _ (rate : ℕ) (s : State) (a : Answer) (s' : State) (md : Invariant rate s) (md' : Invariant rate s') (laid : s'.layout ≡ s.layout) (i slot : ℕ) (c : i < 16) (was : (at s.records i).stage ≡ Reserved slot) (w : Went s a s' i) where
+module _ (rate : ℕ) (s : State) (a : Result Answer Refusal) (s' : State) (md : Invariant rate s) (md' : Invariant rate s') (laid : s'.layout ≡ s.layout) (i slot : ℕ) (c : i < 16) (was : (at s.records i).stage ≡ Reserved slot) (w : Went s a s' i) where
   abbrev r : Record
   r = at s.records i
 

@@ -1,5 +1,5 @@
 -- The ways in which a call can go, with what each one says of the state in which it was made.
-use Rattle.std.proofs.Common.{◌≡◌, ℕ, ◌<◌, ◌≤◌, Bool, true, false, cond, not, eqb, ltb, leb, length, Some, None, Option, refl, arith}
+use Rattle.std.proofs.Common.{◌≡◌, ℕ, ◌<◌, ◌≤◌, Bool, true, false, cond, not, eqb, ltb, leb, length, Some, None, Option, refl, Ok, Err, Result, arith}
 use Rattle.std.proofs.lemmas.Bool.{not-false, eqb-true, leb-false, ltb-false}
 use Rattle.plan.specs.Slots.{slot_count}
 use Rattle.delays.specs.Delays.{accelerator_at}
@@ -9,7 +9,7 @@ use Rattle.model.specs.declared.refusals.Refusal.TheVariants.{NotRunning}
 use Rattle.model.specs.declared.calls.Call.{Call}
 use Rattle.model.specs.declared.calls.Call.TheVariants.{Request, Tick, Done, Collect, StageOf}
 use Rattle.model.specs.declared.calls.Answer.{Answer}
-use Rattle.model.specs.declared.calls.Answer.TheVariants.{Ticket, Completed, Collected, Stands, Refused}
+use Rattle.model.specs.declared.calls.Answer.TheVariants.{Ticket, Completed, Collected, Stands}
 use Rattle.model.specs.Records.{at, held_stage, unended_stage, on_found}
 use Rattle.model.specs.Lowests.{Lowest, Found}
 use Rattle.model.specs.States.{State}
@@ -31,13 +31,13 @@ pub record Collects (s : State) (task t : ℕ) : Type 0 where
   pub named : (at s.records task).ticket ≡ t
   pub ended : unended_stage (at s.records task).stage ≡ false
 
-pub data Happened (s : State) : Call → Answer → State → Type 0 where
-  refused : (c : Call) (r : Refusal) → ticking c ≡ false → Happened s c (Refused r) s
-  entered : (task a : ℕ) → Accepts s task a → Happened s (Request task a) (Ticket s.next) (settle (enter s task a))
+pub data Happened (s : State) : Call → Result Answer Refusal → State → Type 0 where
+  refused : (c : Call) (r : Refusal) → ticking c ≡ false → Happened s c (Err r) s
+  entered : (task a : ℕ) → Accepts s task a → Happened s (Request task a) (Ok (Ticket s.next)) (settle (enter s task a))
   ticked : Happened s Tick (tick_answer s) (tick_after s)
-  completed : (slot i : ℕ) → Lowest (runs_in slot) s.records i → Happened s (Done slot) (Completed (at s.records i).ticket) (settle (finish s i Finished))
-  collected : (task t : ℕ) → Collects s task t → Happened s (Collect task t) (Collected (report (at s.records task))) (empty s task)
-  asked : (task : ℕ) → Happened s (StageOf task) (Stands (at s.records task).stage) s
+  completed : (slot i : ℕ) → Lowest (runs_in slot) s.records i → Happened s (Done slot) (Ok (Completed (at s.records i).ticket)) (settle (finish s i Finished))
+  collected : (task t : ℕ) → Collects s task t → Happened s (Collect task t) (Ok (Collected (report (at s.records task)))) (empty s task)
+  asked : (task : ℕ) → Happened s (StageOf task) (Ok (Stands (at s.records task).stage)) s
 
 passed : (b : Bool) (r : Refusal) (w : Option Refusal) → cond b (Some r) w ≡ None → (b ≡ false) × (w ≡ None)
 passed true r w e = let z : ◌≡◌ {A = ℕ} 0 1 = cc in absurd (omega arith)
@@ -67,11 +67,11 @@ collects s task t e =
     record { task_in = leb-false _ _ p.0; holds = not-false _ q.0; named = eqb-true _ _ (not-false _ r.0); ended = h.0 }
 
 -- a call that is judged: refused, or what it is when nothing is against it
-either : (s : State) (c : Call) (w : Option Refusal) (a : Answer) (s' : State) → ticking c ≡ false → (w ≡ None → Happened s c a s') → Happened s c (judged w a) (unless w s s')
+either : (s : State) (c : Call) (w : Option Refusal) (a : Answer) (s' : State) → ticking c ≡ false → (w ≡ None → Happened s c (Ok a) s') → Happened s c (judged w a) (unless w s s')
 either s c (Some r) a s' q h = Happened.refused c r q
 either s c None a s' q h = h refl
 
-done_at : (s : State) (slot : ℕ) (o : Option ℕ) → Found (runs_in slot) s.records o → on_found o (Some NotRunning) (λ i. None) ≡ None → Happened s (Done slot) (Completed (on_found o 0 (λ i. (at s.records i).ticket))) (on_found o s (λ i. settle (finish s i Finished)))
+done_at : (s : State) (slot : ℕ) (o : Option ℕ) → Found (runs_in slot) s.records o → on_found o (Some NotRunning) (λ i. None) ≡ None → Happened s (Done slot) (Ok (Completed (on_found o 0 (λ i. (at s.records i).ticket)))) (on_found o s (λ i. settle (finish s i Finished)))
 done_at s slot None f e = let z : ◌≡◌ {A = ℕ} 0 1 = cc in absurd (omega arith)
 done_at s slot (Some i) f e = Happened.completed slot i f
 

@@ -1,7 +1,8 @@
 -- Every call keeps the promises and the rules, in every run.
-use Rattle.std.proofs.Common.{◌≡◌, ℕ, Bool, sym, ap, ◌∙◌, subst, arith}
+use Rattle.std.proofs.Common.{◌≡◌, ℕ, Bool, sym, ap, ◌∙◌, subst, Result, Ok, refl, arith}
 use Rattle.plan.specs.Rules.{Layout}
 use Rattle.model.specs.declared.calls.Call.{Call}
+use Rattle.model.specs.declared.refusals.Refusal.{Refusal}
 use Rattle.model.specs.declared.calls.Answer.{Answer}
 use Rattle.model.specs.declared.calls.Answer.TheVariants.{Ticket}
 use Rattle.model.specs.Records.{reserved_stage}
@@ -15,7 +16,7 @@ use Rattle.model.specs.Stops.{Unstopped}
 use Rattle.model.specs.Laws.{Ruled, Step, Opened, Performed}
 use Rattle.model.proofs.Views.{seen_queued, seen_occupant}
 use Rattle.model.proofs.Happens.{Happened}
-use Rattle.model.proofs.Traces.{ticket_inj, no_ticket, done_ticket, refused_ticket, stands_ticket, ticket_report}
+use Rattle.model.proofs.Traces.{ticket_inj, ticket_report, plain_ticket}
 use Rattle.model.proofs.Bases.{base_reached, happens}
 use Rattle.model.proofs.Placed.{room, own_slot}
 use Rattle.model.proofs.Settles.{settled_ready}
@@ -42,15 +43,15 @@ ruled s r =
     record { next = rising r; settled = settled_reached r; ordered = ordered _ s md; own_partition = own_slot s md.placed; progress = progress s md; ran_out = ran_reached r; unstopped = unstopped _ s md }
 
 -- only an accepted request is answered by a ticket
-ticket_next : (s : State) (c : Call) (a : Answer) (s' : State) → Happened s c a s' → (t : ℕ) → a ≡ Ticket t → t ≡ s.next
-ticket_next s c a s' (Happened.refused _ r q) t e = absurd (refused_ticket r t e)
+ticket_next : (s : State) (c : Call) (a : Result Answer Refusal) (s' : State) → Happened s c a s' → (t : ℕ) → a ≡ Ok (Ticket t) → t ≡ s.next
+ticket_next s c a s' (Happened.refused _ r q) t e = plain_ticket _ t refl e
 ticket_next s c a s' (Happened.entered task i x) t e = sym (ticket_inj s.next t e)
-ticket_next s c a s' Happened.ticked t e = absurd (no_ticket _ _ t e)
-ticket_next s c a s' (Happened.completed slot i f) t e = absurd (done_ticket _ t e)
+ticket_next s c a s' Happened.ticked t e = plain_ticket _ t refl e
+ticket_next s c a s' (Happened.completed slot i f) t e = plain_ticket _ t refl e
 ticket_next s c a s' (Happened.collected task u x) t e = ticket_report t _ (sym e)
-ticket_next s c a s' (Happened.asked task) t e = absurd (stands_ticket _ t e)
+ticket_next s c a s' (Happened.asked task) t e = plain_ticket _ t refl e
 
-pub step : {l : Layout} {kd : Bool} {first : ℕ} {h : Trace} (s : State) (c : Call) (a : Answer) (s' : State) → a ≡ answer s c → s' ≡ after s c → Reached l kd first h s → Step s c a s'
+pub step : {l : Layout} {kd : Bool} {first : ℕ} {h : Trace} (s : State) (c : Call) (a : Result Answer Refusal) (s' : State) → a ≡ answer s c → s' ≡ after s c → Reached l kd first h s → Step s c a s'
 step s c a s' says leaves r =
     let next = Reached.called c a r says leaves in
     let b = base_reached r in
@@ -77,7 +78,7 @@ pub opened : {l : Layout} {kd : Bool} {first : ℕ} (s : State) → Started l kd
 opened s st = let r = Reached.started st in record { reached = r; sound = sound s r; ruled = ruled s r }
 
 -- what a call of a scheduler promises follows from its answer and the state that it leaves
-pub performed : (s : State) (c : Call) (a : Answer) (s' : State) → a ≡ answer s c → s' ≡ after s c → Performed s c a s'
+pub performed : (s : State) (c : Call) (a : Result Answer Refusal) (s' : State) → a ≡ answer s c → s' ≡ after s c → Performed s c a s'
 performed s c a s' says leaves = record {
   answered = says;
   left = leaves;

@@ -1,5 +1,5 @@
 -- Only a request that has used all its run ticks ends as overrun.
-use Rattle.std.proofs.Common.{◌≡◌, ℕ, ◌<◌, Bool, cond, eqb, map, length, set, replicate, Some, None, Option, sym, refl, ap, ◌∙◌, subst, arith}
+use Rattle.std.proofs.Common.{◌≡◌, ℕ, ◌<◌, Bool, cond, eqb, map, length, set, replicate, Some, None, Option, sym, refl, ap, ◌∙◌, subst, Result, arith}
 use Rattle.std.proofs.lemmas.List.{get_or-map, get_or-replicate, length-map, length-set}
 use Rattle.std.proofs.lemmas.Bool.{and_parts, both_ways, eqb-true}
 use Rattle.plan.specs.Rules.{Layout}
@@ -9,6 +9,7 @@ use Rattle.model.specs.declared.requests.Stage.{Stage}
 use Rattle.model.specs.declared.requests.Stage.TheVariants.{Reserved, Ended}
 use Rattle.model.specs.declared.requests.Record.{Record}
 use Rattle.model.specs.declared.calls.Call.{Call}
+use Rattle.model.specs.declared.refusals.Refusal.{Refusal}
 use Rattle.model.specs.declared.calls.Answer.{Answer}
 use Rattle.model.specs.Records.{blank, at, up, running_stage, slot_of, staged, aged, fed_record, new}
 use Rattle.model.specs.States.{State, moved, part, run_limit}
@@ -79,7 +80,7 @@ module _ (s : State) (b : Placed s) where
       ran_settle (midway s b.rows) (rows_on s (midway s b.rows) b.rows fm)
       (ran_advance r ((framed (way_ready s b.rows)).places ∙ b.tickets.size) (choose r) (chosen r) (ran_settle x (rows_on s x b.rows fx) (ran_expire s h)))
 
-  ran_step : (c : Call) (a : Answer) (s' : State) → Happened s c a s' → RanOut s → RanOut s'
+  ran_step : (c : Call) (a : Result Answer Refusal) (s' : State) → Happened s c a s' → RanOut s → RanOut s'
   ran_step c a s' (Happened.refused _ r q) h = h
   ran_step c a s' (Happened.entered task i x) h =
       let lr : task < length s.records = omega (arith, b.tickets.size, few_placed s task b x.task_in) in

@@ -1,5 +1,5 @@
 -- Every state of a run keeps what the moves keep; the promises on images and on waits.
-use Rattle.std.proofs.Common.{◌≡◌, ℕ, zero, suc, ◌+◌, ◌<◌, ◌≤◌, Bool, true, false, [], length, get_or, replicate, Some, None, Option, sym, refl, ap, ◌∙◌, subst, ⊎_elim, arith}
+use Rattle.std.proofs.Common.{◌≡◌, ℕ, zero, suc, ◌+◌, ◌<◌, ◌≤◌, Bool, true, false, [], length, get_or, replicate, Some, None, Option, sym, refl, ap, ◌∙◌, subst, ⊎_elim, Result, arith}
 use Rattle.std.proofs.lemmas.List.FromFn.{length-range_with_len}
 use Rattle.std.proofs.lemmas.List.{get_or_past, get_or-replicate, length-set}
 use Rattle.std.proofs.lemmas.Bool.{cases_eq, cases_lt, both_ways}
@@ -11,6 +11,7 @@ use Rattle.ports.specs.Calls.{with_entry, blanked}
 use Rattle.ports.specs.CallLaws.{shut_is, entry_same, entry_other}
 use Rattle.model.specs.declared.requests.Outcome.TheVariants.{Finished}
 use Rattle.model.specs.declared.calls.Call.{Call}
+use Rattle.model.specs.declared.refusals.Refusal.{Refusal}
 use Rattle.model.specs.declared.calls.Answer.{Answer}
 use Rattle.model.specs.Records.{blank, at}
 use Rattle.model.specs.States.{State, lines_from, shut_below, start}
@@ -111,7 +112,7 @@ invariant_tick rate s md =
 invariant_settle : (rate : ℕ) (s : State) → Invariant rate s → Invariant rate (settle s)
 invariant_settle rate s md = invariant_way rate (way_settle s md.placed.rows) md
 
-pub invariant_step : (rate : ℕ) (s : State) (c : Call) (a : Answer) (s' : State) → Invariant rate s → Happened s c a s' → Invariant rate s'
+pub invariant_step : (rate : ℕ) (s : State) (c : Call) (a : Result Answer Refusal) (s' : State) → Invariant rate s → Happened s c a s' → Invariant rate s'
 invariant_step rate s c a s' md (Happened.refused _ r q) = md
 invariant_step rate s c a s' md (Happened.entered task i x) = invariant_settle rate (enter s task i) (invariant_enter rate s md task i x)
 invariant_step rate s c a s' md Happened.ticked = invariant_tick rate s md
@@ -130,7 +131,7 @@ invariant_reached (Reached.called {s} {s'} c a r says leaves) =
 
 -- ---- settled between calls
 
-settled_step : {l : Layout} {kd : Bool} {h : Trace} (s : State) (c : Call) (a : Answer) (s' : State) → Base l kd h s → Settled s → Happened s c a s' → Settled s'
+settled_step : {l : Layout} {kd : Bool} {h : Trace} (s : State) (c : Call) (a : Result Answer Refusal) (s' : State) → Base l kd h s → Settled s → Happened s c a s' → Settled s'
 settled_step s c a s' b st (Happened.refused _ r q) = st
 settled_step s c a s' b st (Happened.entered task i x) = settled_settle (enter s task i) b.rows
 settled_step s c a s' b st Happened.ticked =
@@ -149,7 +150,7 @@ settled_reached (Reached.called {s} {s'} c a r says leaves) = settled_step s c a
 
 -- ---- tickets rise
 
-rising_step : {l : Layout} {kd : Bool} {h : Trace} (s : State) (c : Call) (a : Answer) (s' : State) → Base l kd h s → Happened s c a s' → s'.next ≡ gave a + s.next
+rising_step : {l : Layout} {kd : Bool} {h : Trace} (s : State) (c : Call) (a : Result Answer Refusal) (s' : State) → Base l kd h s → Happened s c a s' → s'.next ≡ gave a + s.next
 rising_step s c a s' b (Happened.refused _ r q) = omega arith
 rising_step s c a s' b (Happened.entered task i x) = omega (arith, (framed (way_settle (enter s task i) b.rows)).next)
 rising_step s c a s' b Happened.ticked = omega (arith, (framed_tick s b.rows).next)

@@ -1,5 +1,5 @@
 -- Every run is sound.
-use Rattle.std.proofs.Common.{◌≡◌, ℕ, ◌+◌, ◌≤◌, Bool, true, false, cond, ◌&&◌, eqb, [], ◌∷◌, sym, refl, ap, ◌∙◌, subst, subst₂, ⊎_elim, arith}
+use Rattle.std.proofs.Common.{◌≡◌, ℕ, ◌+◌, ◌≤◌, Bool, true, false, cond, ◌&&◌, eqb, [], ◌∷◌, sym, refl, ap, ◌∙◌, subst, subst₂, ⊎_elim, Result, Err, arith}
 use Rattle.std.proofs.lemmas.Bool.{cases_Bool, eq-eqb}
 use Rattle.plan.specs.Rules.{Layout}
 use Rattle.delays.specs.Delays.{delay}
@@ -9,8 +9,8 @@ use Rattle.model.specs.declared.requests.Stage.TheVariants.{Empty, Queued, Reser
 use Rattle.model.specs.declared.requests.Report.{Report}
 use Rattle.model.specs.declared.calls.Call.{Call}
 use Rattle.model.specs.declared.calls.Call.TheVariants.{Tick, Done, StageOf}
+use Rattle.model.specs.declared.refusals.Refusal.{Refusal}
 use Rattle.model.specs.declared.calls.Answer.{Answer}
-use Rattle.model.specs.declared.calls.Answer.TheVariants.{Refused}
 use Rattle.model.specs.Records.{at, one, unended_stage}
 use Rattle.model.specs.States.{State}
 use Rattle.model.specs.Moves.{settle, finish, ready}
@@ -25,15 +25,15 @@ use Rattle.model.proofs.Tickets.{holds1}
 use Rattle.model.proofs.Bases.{Base, event, few, base_reached, base_enter, base_finish, happens, ends_run, holding, holds_record, kept, Holder}
 use Rattle.model.proofs.Placed.{shared}
 use Rattle.model.proofs.Ticks.{tot, AllRoomy, still_settle, tot_tick, tot_finish}
-use Rattle.model.proofs.Traces.{none_since, none_told, no_ticket, no_report, done_ticket, done_report, refused_ticket, refused_report, stands_ticket, stands_report}
+use Rattle.model.proofs.Traces.{none_since, none_told}
 use Rattle.model.proofs.Invariants.{Invariant, Capped, capped, roomy}
 use Rattle.model.proofs.Reaches.{invariant_reached, invariant_ready, invariant_step, images}
 use Rattle.model.proofs.Timings.{Timing, timing_still, timing_goes, timing_enter, timing_collect, unended_holder}
 
 module _ {l : Layout} {rate : ℕ} {kd : Bool} {h : Trace} where
-  timing_step : (s : State) (c : Call) (a : Answer) (s' : State) → Base l kd h s → Invariant rate s → Timing l rate kd h s → Happened s c a s' → Timing l rate kd (event s c a ∷ h) s'
+  timing_step : (s : State) (c : Call) (a : Result Answer Refusal) (s' : State) → Base l kd h s → Invariant rate s → Timing l rate kd h s → Happened s c a s' → Timing l rate kd (event s c a ∷ h) s'
   timing_step s c a s' b md tm (Happened.refused _ r q) =
-      timing_goes s s b tm (same_refl s.records) refl c (Refused r) (λ t. refused_ticket r t) (λ x. refused_report r x) (λ j d. let z : tot (at s.records j) ≡ tot (at s.records j) + one (ticking c && unended_stage (at s.records j).stage) = omega (arith, ap (λ x. one (x && unended_stage (at s.records j).stage)) q) in z)
+      timing_goes s s b tm (same_refl s.records) refl c (Err r) refl (λ j d. let z : tot (at s.records j) ≡ tot (at s.records j) + one (ticking c && unended_stage (at s.records j).stage) = omega (arith, ap (λ x. one (x && unended_stage (at s.records j).stage)) q) in z)
   timing_step s c a s' b md tm (Happened.entered task i x) =
       let b' = base_enter s task i b x in
       let w = way_settle (enter s task i) b.rows in
@@ -42,21 +42,21 @@ module _ {l : Layout} {rate : ℕ} {kd : Bool} {h : Trace} where
   timing_step s c a s' b md tm Happened.ticked =
       let r = invariant_ready rate s md in
       let room : AllRoomy (ready s).records = λ j d hd. roomy (ready s) rate r j (omega (arith, r.placed.tickets.size)) hd in
-      timing_goes s (tick_after s) b tm (same_tick s b.rows) (framed_tick s b.rows).next Tick (tick_answer s) (λ t. no_ticket _ _ t) (λ r. no_report _ _ r) (λ j d. tot_tick s b.rows room j (omega (arith, b.tickets.size)))
+      timing_goes s (tick_after s) b tm (same_tick s b.rows) (framed_tick s b.rows).next Tick (tick_answer s) refl (λ j d. tot_tick s b.rows room j (omega (arith, b.tickets.size)))
   timing_step s c a s' b md tm (Happened.completed slot i f) =
       let e = ends_run s slot i f in
       let f' = finish s i Finished in
       let b' = base_finish s i Finished e b in
       let w : Way s (settle f') = then (Way.ends i Finished e Way.none) (way_settle f' b'.rows) in
       let st = still_settle f' b'.rows in
-      timing_goes s (settle f') b tm (same_way w) (framed w).next (Done slot) _ (λ t. done_ticket _ t) (λ r. done_report _ r)
+      timing_goes s (settle f') b tm (same_way w) (framed w).next (Done slot) _ refl
       (λ j d. let z : tot (at (settle f').records j) ≡ tot (at s.records j) + 0 = omega (arith, st.tot_is j (omega (arith, b'.tickets.size)), tot_finish s i e.there e.runs j) in z)
   timing_step s c a s' b md tm (Happened.collected task t x) =
       let fw = few s task b x.task_in in
       let cp = capped s rate md task fw x.holds in
       timing_collect s b tm task t x (subst₂ (λ (y : Layout) (k : Bool). Capped y rate k (at s.records task).accelerator (at s.records task).waited (at s.records task).written (at s.records task).run) b.laid b.kind cp)
   timing_step s c a s' b md tm (Happened.asked task) =
-      timing_goes s s b tm (same_refl s.records) refl (StageOf task) _ (λ t. stands_ticket _ t) (λ r. stands_report _ r) (λ j d. let z : tot (at s.records j) ≡ tot (at s.records j) + 0 = omega arith in z)
+      timing_goes s s b tm (same_refl s.records) refl (StageOf task) _ refl (λ j d. let z : tot (at s.records j) ≡ tot (at s.records j) + 0 = omega arith in z)
 
 timing_start : {l : Layout} {rate : ℕ} {kd : Bool} (s : State) → Timing l rate kd [] s
 timing_start s = record {
@@ -66,7 +66,7 @@ timing_start s = record {
   fate = λ task a t later si. absurd (none_since si);
 }
 
-pub rate_same : {l : Layout} {kd : Bool} {first : ℕ} {h : Trace} (s : State) (c : Call) (a : Answer) (s' : State) → Reached l kd first h s → a ≡ answer s c → s' ≡ after s c → s'.port.rate ≡ s.port.rate
+pub rate_same : {l : Layout} {kd : Bool} {first : ℕ} {h : Trace} (s : State) (c : Call) (a : Result Answer Refusal) (s' : State) → Reached l kd first h s → a ≡ answer s c → s' ≡ after s c → s'.port.rate ≡ s.port.rate
 rate_same s c a s' r says leaves = (invariant_step s.port.rate s c a s' (invariant_reached r) (happens s c a s' says leaves)).stored.rate_is
 
 timing_reached : {l : Layout} {kd : Bool} {first : ℕ} {h : Trace} {s : State} → Reached l kd first h s → Timing l s.port.rate kd h s

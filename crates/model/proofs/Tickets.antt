@@ -1,5 +1,5 @@
 -- Tickets: whose they are, that no two are the same, and that each one given is collected or held.
-use Rattle.std.proofs.Common.{◌≡◌, ℕ, ◌+◌, ◌<◌, ◌≤◌, Bool, true, false, cond, not, eqb, leb, List, [], ◌∷◌, length, set, replicate, Some, None, sum_by, sym, refl, ap, ◌∙◌, subst, subst₂, ⊎_elim, arith}
+use Rattle.std.proofs.Common.{◌≡◌, ℕ, ◌+◌, ◌<◌, ◌≤◌, Bool, true, false, cond, not, eqb, leb, List, [], ◌∷◌, length, set, replicate, Some, None, sum_by, sym, refl, ap, ◌∙◌, subst, subst₂, ⊎_elim, Ok, arith}
 use Rattle.std.proofs.lemmas.List.{get_or-replicate, length-set}
 use Rattle.std.proofs.lemmas.List.Sums.{sum_by-set}
 use Rattle.std.proofs.lemmas.Bool.{cases_eq, eq-eqb, ne_eqb, cond-true, cond-false}
@@ -150,7 +150,7 @@ tally_quiet {h} {rs} {n} e t g c =
           (told_inv e h x);
     }
 
-pub tally_enter : {l : Layout} {h : Trace} {rs : List Record} {n : ℕ} (s : State) (i a : ℕ) → Tickets l rs n → Tally h rs n → i < 16 → held_stage (at rs i).stage ≡ false → Tally (record { before = s; call = Request i a; answer = Ticket n } ∷ h) (set rs i (new a n)) (n + 1)
+pub tally_enter : {l : Layout} {h : Trace} {rs : List Record} {n : ℕ} (s : State) (i a : ℕ) → Tickets l rs n → Tally h rs n → i < 16 → held_stage (at rs i).stage ≡ false → Tally (record { before = s; call = Request i a; answer = Ok (Ticket n) } ∷ h) (set rs i (new a n)) (n + 1)
 tally_enter {l} {h} {rs} {n} s i a ts t b free =
     let lr : i < length rs = omega (arith, ts.size) in
     let was : given h n ≡ 0 = t.unborn n (omega arith) in
@@ -161,21 +161,21 @@ tally_enter {l} {h} {rs} {n} s i a ts t b free =
       kept = λ u. omega (arith, t.kept u, sums u);
       once = λ u. ⊎_elim (λ z. omega (arith, subst (λ (x : ℕ). given h x ≡ 0) z was, ap (λ (x : ℕ). one (eqb n x)) (sym z), one_same n)) (λ ne. omega (arith, one_other n u ne, t.once u)) (cases_eq n u);
       own = λ j c.
-          let e : Event = record { before = s; call = Request i a; answer = Ticket n } in
+          let e : Event = record { before = s; call = Request i a; answer = Ok (Ticket n) } in
           at_set (λ r. Held r → (later : Trace) × Since j r.accelerator r.ticket later (e ∷ h)) rs i (new a n) j lr
           (λ z _. ([], subst (λ (x : ℕ). Since x a n [] (e ∷ h)) (sym z) (Since.here s)))
           (λ ne hd. before e (t.own j c hd));
       told = λ j u r x.
-          let e : Event = record { before = s; call = Request i a; answer = Ticket n } in
+          let e : Event = record { before = s; call = Request i a; answer = Ok (Ticket n) } in
           ⊎_elim (λ z. ticket_report n r z.1) (λ y. before e (t.told j u r y)) (told_inv e h x);
     }
 
-pub tally_collect : {l : Layout} {h : Trace} {rs : List Record} {n : ℕ} (s : State) (i u : ℕ) (r : Report) → Tickets l rs n → Tally h rs n → i < 16 → Held (at rs i) → (at rs i).ticket ≡ u → r.accelerator ≡ (at rs i).accelerator → Tally (record { before = s; call = Collect i u; answer = Collected r } ∷ h) (set rs i blank) n
+pub tally_collect : {l : Layout} {h : Trace} {rs : List Record} {n : ℕ} (s : State) (i u : ℕ) (r : Report) → Tickets l rs n → Tally h rs n → i < 16 → Held (at rs i) → (at rs i).ticket ≡ u → r.accelerator ≡ (at rs i).accelerator → Tally (record { before = s; call = Collect i u; answer = Ok (Collected r) } ∷ h) (set rs i blank) n
 tally_collect {l} {h} {rs} {n} s i u r ts t b hd named image =
     let lr : i < length rs = omega (arith, ts.size) in
     let sums : (v : ℕ) → sum_by (holds1 v) (set rs i blank) + one (eqb u v) ≡ sum_by (holds1 v) rs =
     λ v. omega (arith, sum_by-set (holds1 v) rs i blank blank lr, holds1_held v (at rs i) hd, ap (λ (x : ℕ). one (eqb x v)) named) in
-    let e : Event = record { before = s; call = Collect i u; answer = Collected r } in
+    let e : Event = record { before = s; call = Collect i u; answer = Ok (Collected r) } in
     record {
       unborn = λ v c. omega (arith, t.unborn v c);
       kept = λ v. omega (arith, t.kept v, sums v);

@@ -1,11 +1,12 @@
 -- The ticks of a request, counted from the run, are those that its record counts, and what was told when it was collected.
-use Rattle.std.proofs.Common.{◌≡◌, ℕ, ◌+◌, ◌<◌, Bool, true, false, cond, ◌&&◌, eqb, leb, ◌⊎◌, ◌∷◌, length, set, sym, refl, ap, ◌∙◌, subst, subst₂, inl, inr, ⊎_elim, arith}
+use Rattle.std.proofs.Common.{◌≡◌, ℕ, ◌+◌, ◌<◌, Bool, true, false, cond, ◌&&◌, eqb, leb, ◌⊎◌, ◌∷◌, length, set, sym, refl, ap, ◌∙◌, subst, subst₂, inl, inr, ⊎_elim, Result, Ok, arith}
 use Rattle.std.proofs.lemmas.Bool.{cases_eq, cases_lt, cases_Bool, both_ways, eq-eqb, eqb-true, lt-leb, cond-true, cond-false}
 use Rattle.plan.specs.Rules.{Layout}
 use Rattle.model.specs.declared.requests.Record.{Record}
 use Rattle.model.specs.declared.requests.Report.{Report}
 use Rattle.model.specs.declared.calls.Call.{Call}
 use Rattle.model.specs.declared.calls.Call.TheVariants.{Request, Collect}
+use Rattle.model.specs.declared.refusals.Refusal.{Refusal}
 use Rattle.model.specs.declared.calls.Answer.{Answer}
 use Rattle.model.specs.declared.calls.Answer.TheVariants.{Ticket, Collected}
 use Rattle.model.specs.Records.{blank, at, one, held_stage, unended_stage, new}
@@ -20,7 +21,7 @@ use Rattle.model.proofs.Happens.{Accepts, Collects}
 use Rattle.model.proofs.Tickets.{Held, unended_is}
 use Rattle.model.proofs.Bases.{Base, event, tasks_of, few, Holder, in_few}
 use Rattle.model.proofs.Ticks.{tot, same_outcome}
-use Rattle.model.proofs.Traces.{since_inv, told_inv, request_inj, collect_inj, ticket_inj, report_inj, ticket_report}
+use Rattle.model.proofs.Traces.{since_inv, told_inv, request_inj, collect_inj, ticket_inj, report_inj, ticket_report, plain, plain_ticket, plain_report}
 use Rattle.model.proofs.Invariants.{Capped}
 
 since_given : {task a t : ℕ} {later h : Trace} → Since task a t later h → 0 < given h t
@@ -101,13 +102,13 @@ module _ {l : Layout} {rate : ℕ} {kd : Bool} {h : Trace} (s s' : State) (b : B
       }
 
   -- a call that gives and collects no ticket
-  pub timing_goes : (c : Call) (ans : Answer) → ((t : ℕ) → ans ≡ Ticket t → ⊥) → ((r : Report) → ans ≡ Collected r → ⊥) → ((j : ℕ) → j < 16 → tot (at s'.records j) ≡ tot (at s.records j) + one (ticking c && unended_stage (at s.records j).stage)) → Timing l rate kd (event s c ans ∷ h) s'
-  timing_goes c ans not-ticket not-told tots =
+  pub timing_goes : (c : Call) (ans : Result Answer Refusal) → plain ans ≡ true → ((j : ℕ) → j < 16 → tot (at s'.records j) ≡ tot (at s.records j) + one (ticking c && unended_stage (at s.records j).stage)) → Timing l rate kd (event s c ans ∷ h) s'
+  timing_goes c ans quiet tots =
       let e : Event = event s c ans in
       record {
         live = λ task a t later x si.
             ⊎_elim
-            (λ z. absurd (not-ticket t z.2))
+            (λ z. plain_ticket ans t quiet z.2)
             (λ z. let y = tm.live task a t z.0 (back task t x) z.2 in
             let hb = back task t x in
             let k = same.each task (omega (arith, x.few, b.tickets.size)) in
@@ -119,9 +120,9 @@ module _ {l : Layout} {rate : ℕ} {kd : Bool} {h : Trace} (s s' : State) (b : B
             (since_inv e h si);
         past = λ task a t later r si td.
             ⊎_elim
-            (λ z. absurd (not-told r z.1))
+            (λ z. plain_report ans r quiet z.1)
             (λ td'. ⊎_elim
-            (λ z. absurd (not-ticket t z.2))
+            (λ z. plain_ticket ans t quiet z.2)
             (λ z. let y = tm.past task a t z.0 r z.2 td' in
             let g = tm.gone task t r td' in
             let u : one (ticking c && unended s task t) ≡ 0 = ap (λ v. one (ticking c && v)) (unended_gone s b task t (λ f hd nm. g.0 (record { few = f; held = hd; named = nm }))) ∙ and_never (ticking c) in
@@ -130,12 +131,12 @@ module _ {l : Layout} {rate : ℕ} {kd : Bool} {h : Trace} (s s' : State) (b : B
             (told_inv e h td);
         gone = λ task t r td.
             ⊎_elim
-            (λ z. absurd (not-told r z.1))
+            (λ z. plain_report ans r quiet z.1)
             (λ td'. let g = tm.gone task t r td' in ((λ x. g.0 (back task t x)), (let z : t < s'.next = omega (arith, nx, g.1) in z)))
             (told_inv e h td);
         fate = λ task a t later si.
             ⊎_elim
-            (λ z. absurd (not-ticket t z.2))
+            (λ z. plain_ticket ans t quiet z.2)
             (λ z. ⊎_elim (λ x. inl (forth task t x)) (λ x. inr (x.0, Told.there e x.1)) (tm.fate task a t z.0 z.2))
             (since_inv e h si);
       }
@@ -148,9 +149,9 @@ module _ {l : Layout} {rate : ℕ} {kd : Bool} {h : Trace} (s : State) (b : Base
   born : {task a t : ℕ} {later : Trace} → Since task a t later h → t < s.next
   born {t = t} si = ⊎_elim (λ z. z) (λ z. absurd (omega (arith, since_given si, b.tally.unborn t z))) (cases_lt t s.next)
 
-  pub timing_enter : (task a : ℕ) → Accepts s task a → Timing l rate kd (event s (Request task a) (Ticket s.next) ∷ h) (enter s task a)
+  pub timing_enter : (task a : ℕ) → Accepts s task a → Timing l rate kd (event s (Request task a) (Ok (Ticket s.next)) ∷ h) (enter s task a)
   timing_enter task a c =
-      let e : Event = event s (Request task a) (Ticket s.next) in
+      let e : Event = event s (Request task a) (Ok (Ticket s.next)) in
       let few' : task < 16 = few s task b c.task_in in
       let lr : task < length s.records = omega (arith, b.tickets.size) in
       let fresh = new a s.next in
@@ -204,10 +205,10 @@ module _ {l : Layout} {rate : ℕ} {kd : Bool} {h : Trace} (s : State) (b : Base
             (since_inv e h si);
       }
 
-  pub timing_collect : (task u : ℕ) → Collects s task u → Capped l rate kd (at s.records task).accelerator (at s.records task).waited (at s.records task).written (at s.records task).run → Timing l rate kd (event s (Collect task u) (Collected (report (at s.records task))) ∷ h) (empty s task)
+  pub timing_collect : (task u : ℕ) → Collects s task u → Capped l rate kd (at s.records task).accelerator (at s.records task).waited (at s.records task).written (at s.records task).run → Timing l rate kd (event s (Collect task u) (Ok (Collected (report (at s.records task)))) ∷ h) (empty s task)
   timing_collect task u c cap =
       let rp = report (at s.records task) in
-      let e : Event = event s (Collect task u) (Collected rp) in
+      let e : Event = event s (Collect task u) (Ok (Collected rp)) in
       let few' : task < 16 = few s task b c.task_in in
       let lr : task < length s.records = omega (arith, b.tickets.size) in
       let held-not : (t : ℕ) → Holder (empty s task) task t → ⊥ = λ t x. at_set (λ r. Held r → ⊥) s.records task blank task lr (λ _ y. no_true y) (λ ne. absurd (ne refl)) x.held in

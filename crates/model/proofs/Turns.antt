@@ -1,5 +1,5 @@
 -- Slots change hands by ticket and in line: how the moves of a call do it, and so every call.
-use Rattle.std.proofs.Common.{◌≡◌, ℕ, suc, ◌+◌, ◌<◌, true, false, eqb, List, [], ◌∷◌, ◌++◌, map, length, get_or, set, Some, None, Option, sym, refl, ap, ◌∙◌, subst, ⊎_elim, arith}
+use Rattle.std.proofs.Common.{◌≡◌, ℕ, suc, ◌+◌, ◌<◌, true, false, eqb, List, [], ◌∷◌, ◌++◌, map, length, get_or, set, Some, None, Option, sym, refl, ap, ◌∙◌, subst, ⊎_elim, Result, arith}
 use Rattle.std.proofs.lemmas.List.{append-nil, append_assoc, get_or_append_left, get_or_push, get_or-map, get_or-set_same, get_or-set_other, length-map, length_push, map_push}
 use Rattle.std.proofs.lemmas.Bool.{cases_eq, cases_lt, eq-eqb, eqb-true, and_parts, and_from, both_ways, cases_Bool}
 use Rattle.plan.specs.Rules.{Layout}
@@ -10,6 +10,7 @@ use Rattle.model.specs.declared.requests.Stage.{Stage}
 use Rattle.model.specs.declared.requests.Stage.TheVariants.{Empty, Reserved, Ended}
 use Rattle.model.specs.declared.requests.Record.{Record}
 use Rattle.model.specs.declared.calls.Call.{Call}
+use Rattle.model.specs.declared.refusals.Refusal.{Refusal}
 use Rattle.model.specs.declared.calls.Answer.{Answer}
 use Rattle.model.specs.Records.{blank, at, queued_stage, reserved_stage, slot_of, staged, aged, fed_record, new}
 use Rattle.model.specs.States.{State, moved, line, part}
@@ -265,7 +266,7 @@ turns_none s s' k ln none = record {
 turning_still : (s : State) (k : ℕ) → Turning s k s
 turning_still s k = record { turns = turns_none s s k refl (λ i c g. both_ways _ g.before g.after); stays = λ j c p e. e }
 
-pub turns_step : (s : State) (c : Call) (a : Answer) (s' : State) → Placed s → Happened s c a s' → (k : ℕ) → Turns s s' k
+pub turns_step : (s : State) (c : Call) (a : Result Answer Refusal) (s' : State) → Placed s → Happened s c a s' → (k : ℕ) → Turns s s' k
 turns_step s c a s' b (Happened.refused _ r q) k = (turning_still s k).turns
 turns_step s c a s' b (Happened.entered task i x) k =
     let lr : task < length s.records = omega (arith, b.tickets.size, few_placed s task b x.task_in) in

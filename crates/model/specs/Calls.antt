@@ -1,5 +1,5 @@
 -- What each call answers and leaves.
-use Rattle.std.specs.Prelude.{ℕ, ◌+◌, cond, not, length, Some, None, count_by, Option, ◌==◌, nat_le, nat_lt, slice_set}
+use Rattle.std.specs.Prelude.{ℕ, ◌+◌, cond, not, length, Some, None, Ok, Err, count_by, Option, Result, ◌==◌, nat_le, nat_lt, slice_set}
 use Rattle.plan.specs.Slots.{slot_count}
 use Rattle.delays.specs.Delays.{accelerator_at}
 use Rattle.model.specs.declared.requests.Outcome.TheVariants.{Finished}
@@ -10,15 +10,15 @@ use Rattle.model.specs.declared.refusals.Refusal.TheVariants.{NoTask, NoAccelera
 use Rattle.model.specs.declared.calls.Call.{Call}
 use Rattle.model.specs.declared.calls.Call.TheVariants.{Request, Tick, Done, Collect, StageOf}
 use Rattle.model.specs.declared.calls.Answer.{Answer}
-use Rattle.model.specs.declared.calls.Answer.TheVariants.{Ticket, Ticked, Completed, Collected, Stands, Refused}
+use Rattle.model.specs.declared.calls.Answer.TheVariants.{Ticket, Ticked, Completed, Collected, Stands}
 use Rattle.model.specs.Records.{blank, at, held_stage, unended_stage, ended_stage, slot_of, outcome_of, one, new, lowest, on_found}
 use Rattle.model.specs.States.{State}
 use Rattle.model.specs.Moves.{expired, runs_in, settle, choose, stage_fed, finish, advance, ready}
 
 -- the answer of a call, of which the first part says why it is refused, if it is
-abbrev pub judged : Option Refusal → Answer → Answer
-judged (Some r) a = Refused r
-judged None a = a
+abbrev pub judged : Option Refusal → Answer → Result Answer Refusal
+judged (Some r) a = Err r
+judged None a = Ok a
 
 -- what a call leaves of s: the new state, or s itself where the call is refused
 abbrev pub unless : Option Refusal → State → State → State
@@ -39,7 +39,7 @@ abbrev pub enter : State → ℕ → ℕ → State
 enter s task a =
     record { layout = s.layout; interrupts = s.interrupts; records = slice_set s.records task (new a s.next); lines = s.lines; next = s.next + 1; port = s.port }
 
-abbrev pub request_answer : State → ℕ → ℕ → Answer
+abbrev pub request_answer : State → ℕ → ℕ → Result Answer Refusal
 request_answer s task a = judged (why_request s task a) (Ticket s.next)
 
 abbrev pub request_after : State → ℕ → ℕ → State
@@ -58,9 +58,9 @@ abbrev pub flawed_now : State → Option ℕ → ℕ
 flawed_now s None = 0
 flawed_now s (Some i) = one (ended_stage (stage_fed s i))
 
-abbrev pub tick_answer : State → Answer
+abbrev pub tick_answer : State → Result Answer Refusal
 tick_answer s =
-    Ticked (ticket_at (ready s) (choose (ready s))) (count_by (expired s.layout) s.records + flawed_now (ready s) (choose (ready s)))
+    Ok (Ticked (ticket_at (ready s) (choose (ready s))) (count_by (expired s.layout) s.records + flawed_now (ready s) (choose (ready s))))
 
 -- done
 abbrev pub running_in : State → ℕ → Option ℕ
@@ -70,7 +70,7 @@ abbrev pub why_done : State → ℕ → Option Refusal
 why_done s slot =
     cond (nat_le (slot_count s.layout) slot) (Some NoSlot) (on_found (running_in s slot) (Some NotRunning) (λ i. None))
 
-abbrev pub done_answer : State → ℕ → Answer
+abbrev pub done_answer : State → ℕ → Result Answer Refusal
 done_answer s slot =
     judged (why_done s slot) (Completed (on_found (running_in s slot) 0 (λ i. (at s.records i).ticket)))
 
@@ -90,7 +90,7 @@ abbrev pub report : Record → Report
 report r =
     record { accelerator = r.accelerator; slot = slot_of r.stage; waited = r.waited; written = r.written; run = r.run; outcome = outcome_of r.stage }
 
-abbrev pub collect_answer : State → ℕ → ℕ → Answer
+abbrev pub collect_answer : State → ℕ → ℕ → Result Answer Refusal
 collect_answer s task ticket = judged (why_collect s task ticket) (Collected (report (at s.records task)))
 
 -- the task's record holds nothing
@@ -105,11 +105,11 @@ collect_after s task ticket = unless (why_collect s task ticket) s (empty s task
 abbrev pub why_stage : State → ℕ → Option Refusal
 why_stage s task = cond (nat_le s.layout.tasks task) (Some NoTask) None
 
-abbrev pub stage_answer : State → ℕ → Answer
+abbrev pub stage_answer : State → ℕ → Result Answer Refusal
 stage_answer s task = judged (why_stage s task) (Stands (at s.records task).stage)
 
--- every call
-abbrev pub answer : State → Call → Answer
+-- every call: its answer, or why it is refused
+abbrev pub answer : State → Call → Result Answer Refusal
 answer s (Request task a) = request_answer s task a
 answer s Tick = tick_answer s
 answer s (Done slot) = done_answer s slot

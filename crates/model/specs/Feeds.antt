@@ -1,11 +1,12 @@
 -- Whom a tick writes, and how much of its image a slot holds.
-use Rattle.std.specs.Prelude.{◌≡◌, ℕ, ◌+◌, ◌*◌, ◌<◌, ◌≤◌, Bool, true, false, cond, ◌⊎◌, Some, None, Option, ◌==◌}
+use Rattle.std.specs.Prelude.{◌≡◌, ℕ, ◌+◌, ◌*◌, ◌<◌, ◌≤◌, Bool, true, false, cond, ◌⊎◌, Some, None, Ok, Err, Option, Result, ◌==◌}
 use Rattle.delays.specs.Delays.{partition_at}
 use Rattle.ports.specs.Meaning.{Entry, entry_at, half}
 use Rattle.model.specs.declared.requests.Stage.TheVariants.{Reserved, Running}
 use Rattle.model.specs.declared.requests.Record.{Record}
+use Rattle.model.specs.declared.refusals.Refusal.{Refusal}
 use Rattle.model.specs.declared.calls.Answer.{Answer}
-use Rattle.model.specs.declared.calls.Answer.TheVariants.{Ticket, Ticked, Completed, Collected, Stands, Refused}
+use Rattle.model.specs.declared.calls.Answer.TheVariants.{Ticket, Ticked, Completed, Collected, Stands}
 use Rattle.model.specs.Records.{at}
 use Rattle.model.specs.States.{State, part}
 use Rattle.model.specs.Moves.{is_reserved}
@@ -24,13 +25,13 @@ WrittenTicket s (Some t) = (i : ℕ) × ((at s.records i).ticket ≡ t) × Writt
 WrittenTicket s None = (i : ℕ) → i < 16 → is_reserved (at s.records i) ≡ false
 
 -- what a tick answers, in the state when the port chooses: the ticket written, or none where nothing is reserved
-abbrev pub TickTells : State → Answer → Type 0
-TickTells s (Ticket t) = ⊥
-TickTells s (Ticked o n) = WrittenTicket s o
-TickTells s (Completed t) = ⊥
-TickTells s (Collected r) = ⊥
-TickTells s (Stands σ) = ⊥
-TickTells s (Refused why) = ⊥
+abbrev pub TickTells : State → Result Answer Refusal → Type 0
+TickTells s (Ok (Ticket t)) = ⊥
+TickTells s (Ok (Ticked o n)) = WrittenTicket s o
+TickTells s (Ok (Completed t)) = ⊥
+TickTells s (Ok (Collected r)) = ⊥
+TickTells s (Ok (Stands σ)) = ⊥
+TickTells s (Err why) = ⊥
 
 -- of a reserved request so much is written as its written ticks write
 pub record PartlyWritten (s : State) (r : Record) (e : Entry) : Type 0 where
@@ -47,16 +48,16 @@ abbrev pub names_ticket : Option ℕ → ℕ → Bool
 names_ticket (Some u) t = u == t
 names_ticket None t = false
 
-abbrev pub tells_written : Answer → ℕ → Bool
-tells_written (Ticket u) t = false
-tells_written (Ticked o n) t = names_ticket o t
-tells_written (Completed u) t = false
-tells_written (Collected r) t = false
-tells_written (Stands σ) t = false
-tells_written (Refused why) t = false
+abbrev pub tells_written : Result Answer Refusal → ℕ → Bool
+tells_written (Ok (Ticket u)) t = false
+tells_written (Ok (Ticked o n)) t = names_ticket o t
+tells_written (Ok (Completed u)) t = false
+tells_written (Ok (Collected r)) t = false
+tells_written (Ok (Stands σ)) t = false
+tells_written (Err why) t = false
 
 -- how a call leaves the image of the request at place i, which was reserved in a slot: it goes on where it stopped
-pub record GoesOn (s : State) (a : Answer) (s' : State) (i slot : ℕ) : Type 0 where
+pub record GoesOn (s : State) (a : Result Answer Refusal) (s' : State) (i slot : ℕ) : Type 0 where
   -- still reserved, it has as many blocks more as a feed writes if it was written, and else as many as before
   pub partly : (at s'.records i).stage ≡ Reserved slot → (entry_at s'.port slot).written ≡ (entry_at s.port slot).written + cond (tells_written a (at s.records i).ticket) s.port.rate 0
   -- it runs once it was written and a feed's blocks were the last

@@ -1,23 +1,24 @@
 -- Who gets which slot: the rules of tickets and grants, between calls and from one call to the next.
-use Rattle.std.specs.Prelude.{◌≡◌, ℕ, ◌+◌, ◌<◌, Bool, true, false, List, [], ◌∷◌, ◌++◌, map, length, slice_index}
+use Rattle.std.specs.Prelude.{◌≡◌, ℕ, ◌+◌, ◌<◌, Bool, true, false, List, [], ◌∷◌, ◌++◌, map, length, Ok, Err, Result, slice_index}
 use Rattle.plan.specs.Slots.{SlotIn}
 use Rattle.model.specs.declared.requests.Stage.{Stage}
 use Rattle.model.specs.declared.requests.Stage.TheVariants.{Empty, Queued, Reserved, Running, Ended}
+use Rattle.model.specs.declared.refusals.Refusal.{Refusal}
 use Rattle.model.specs.declared.calls.Answer.{Answer}
-use Rattle.model.specs.declared.calls.Answer.TheVariants.{Ticket, Ticked, Completed, Collected, Stands, Refused}
+use Rattle.model.specs.declared.calls.Answer.TheVariants.{Ticket, Ticked, Completed, Collected, Stands}
 use Rattle.model.specs.Records.{at, queued_stage, occupant_stage, slot_of}
 use Rattle.model.specs.States.{State, line, part}
 use Rattle.model.specs.Moves.{queued_in}
 use Rattle.model.specs.Runs.{Trace}
 
 -- how many requests a run accepted
-abbrev pub gave : Answer → ℕ
-gave (Ticket u) = 1
-gave (Ticked o n) = 0
-gave (Completed u) = 0
-gave (Collected r) = 0
-gave (Stands σ) = 0
-gave (Refused why) = 0
+abbrev pub gave : Result Answer Refusal → ℕ
+gave (Ok (Ticket u)) = 1
+gave (Ok (Ticked o n)) = 0
+gave (Ok (Completed u)) = 0
+gave (Ok (Collected r)) = 0
+gave (Ok (Stands σ)) = 0
+gave (Err why) = 0
 
 abbrev pub accepted : Trace → ℕ
 accepted [] = 0

@@ -1,10 +1,11 @@
 -- What a start and a call of a scheduler promise of every run that they are part of.
-use Rattle.std.specs.Prelude.{◌≡◌, ℕ, ◌+◌, ◌<◌, Bool, [], ◌∷◌}
+use Rattle.std.specs.Prelude.{◌≡◌, ℕ, ◌+◌, ◌<◌, Bool, [], ◌∷◌, Ok, Result}
 use Rattle.plan.specs.Rules.{Layout}
 use Rattle.model.specs.declared.requests.Outcome.TheVariants.{Overrun}
 use Rattle.model.specs.declared.requests.Stage.TheVariants.{Reserved, Ended}
 use Rattle.model.specs.declared.calls.Call.{Call}
 use Rattle.model.specs.declared.calls.Call.TheVariants.{Tick}
+use Rattle.model.specs.declared.refusals.Refusal.{Refusal}
 use Rattle.model.specs.declared.calls.Answer.{Answer}
 use Rattle.model.specs.declared.calls.Answer.TheVariants.{Ticket}
 use Rattle.model.specs.Records.{at}
@@ -33,13 +34,13 @@ pub record Ruled (first : ℕ) (h : Trace) (s : State) : Type 0 where
   pub unstopped : Unstopped s
 
 -- the rules that every call of a run keeps
-pub record Step (s : State) (c : Call) (a : Answer) (s' : State) : Type 0 where
+pub record Step (s : State) (c : Call) (a : Result Answer Refusal) (s' : State) : Type 0 where
   -- the plan, the kind of port and its rate stay
   pub layout : s'.layout ≡ s.layout
   pub interrupts : s'.interrupts ≡ s.interrupts
   pub rate : s'.port.rate ≡ s.port.rate
   -- a ticket that is given is the next one
-  pub ticket : (t : ℕ) → a ≡ Ticket t → t ≡ s.next
+  pub ticket : (t : ℕ) → a ≡ Ok (Ticket t) → t ≡ s.next
   pub turns : (k : ℕ) → Turns s s' k
   -- a tick writes by the rules of the port, once overruns have ended and free slots are granted
   pub writes : c ≡ Tick → TickTells (ready s) a
@@ -54,7 +55,7 @@ pub record Opened (l : Layout) (interrupts : Bool) (first : ℕ) (s : State) : T
   pub ruled : Ruled first [] s
 
 -- the call gives its answer and leaves its state; every run that led to s goes on by it, and the run that results keeps the promises and the rules
-pub record Performed (s : State) (c : Call) (a : Answer) (s' : State) : Type 0 where
+pub record Performed (s : State) (c : Call) (a : Result Answer Refusal) (s' : State) : Type 0 where
   pub answered : a ≡ answer s c
   pub left : s' ≡ after s c
   pub runs : (l : Layout) (interrupts : Bool) (first : ℕ) (h : Trace) → Reached l interrupts first h s → Reached l interrupts first (record { before = s; call = c; answer = a } ∷ h) s'

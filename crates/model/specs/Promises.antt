@@ -1,5 +1,5 @@
 -- What holds of every run: how long requests take, where tickets and slots are, and what runs in a slot.
-use Rattle.std.specs.Prelude.{◌≡◌, ℕ, ◌+◌, ◌<◌, ◌≤◌, Bool, true, false, ◌&&◌, ◌⊎◌, [], ◌∷◌, count_by, ◌==◌, ◌≢◌, nat_eq}
+use Rattle.std.specs.Prelude.{◌≡◌, ℕ, ◌+◌, ◌<◌, ◌≤◌, Bool, true, false, ◌&&◌, ◌⊎◌, [], ◌∷◌, Ok, Err, count_by, Result, ◌==◌, ◌≢◌, nat_eq}
 use Rattle.std.specs.List.{range_with_len}
 use Rattle.plan.specs.Slots.{SlotIn}
 use Rattle.delays.specs.Delays.{partition_at, accelerator_at, delay, stay}
@@ -12,8 +12,9 @@ use Rattle.model.specs.declared.requests.Record.{Record}
 use Rattle.model.specs.declared.requests.Report.{Report}
 use Rattle.model.specs.declared.calls.Call.{Call}
 use Rattle.model.specs.declared.calls.Call.TheVariants.{Request, Tick, Done, Collect, StageOf}
+use Rattle.model.specs.declared.refusals.Refusal.{Refusal}
 use Rattle.model.specs.declared.calls.Answer.{Answer}
-use Rattle.model.specs.declared.calls.Answer.TheVariants.{Ticket, Ticked, Completed, Collected, Stands, Refused}
+use Rattle.model.specs.declared.calls.Answer.TheVariants.{Ticket, Ticked, Completed, Collected, Stands}
 use Rattle.model.specs.Refusals.{refusal_number}
 use Rattle.model.specs.Records.{at, one, occupant_stage, slot_of}
 use Rattle.model.specs.States.{State, line}
@@ -23,22 +24,22 @@ use Rattle.model.specs.Runs.{Event, Trace}
 -- ---- who holds a ticket
 
 -- refused only because the request is unended
-abbrev pub too_early : Answer → Bool
-too_early (Ticket t) = false
-too_early (Ticked o n) = false
-too_early (Completed t) = false
-too_early (Collected r) = false
-too_early (Stands σ) = false
-too_early (Refused why) = refusal_number why == 32
+abbrev pub too_early : Result Answer Refusal → Bool
+too_early (Ok (Ticket t)) = false
+too_early (Ok (Ticked o n)) = false
+too_early (Ok (Completed t)) = false
+too_early (Ok (Collected r)) = false
+too_early (Ok (Stands σ)) = false
+too_early (Err why) = refusal_number why == 32
 
 -- accepted, or refused only because the request is unended
-abbrev pub collectable : Answer → Bool
-collectable (Ticket t) = false
-collectable (Ticked o n) = false
-collectable (Completed t) = false
-collectable (Collected r) = true
-collectable (Stands σ) = false
-collectable (Refused why) = refusal_number why == 32
+abbrev pub collectable : Result Answer Refusal → Bool
+collectable (Ok (Ticket t)) = false
+collectable (Ok (Ticked o n)) = false
+collectable (Ok (Completed t)) = false
+collectable (Ok (Collected r)) = true
+collectable (Ok (Stands σ)) = false
+collectable (Err why) = refusal_number why == 32
 
 -- a task holds a ticket, and its request is unended, by what collect would answer
 abbrev pub holds : State → ℕ → ℕ → Bool
@@ -53,13 +54,13 @@ holders s t = count_by (λ i. holds s i t) (range_with_len 0 16)
 
 -- ---- what a run gave and collected
 
-abbrev pub gives : Answer → ℕ → ℕ
-gives (Ticket u) t = one (u == t)
-gives (Ticked o n) t = 0
-gives (Completed u) t = 0
-gives (Collected r) t = 0
-gives (Stands σ) t = 0
-gives (Refused why) t = 0
+abbrev pub gives : Result Answer Refusal → ℕ → ℕ
+gives (Ok (Ticket u)) t = one (u == t)
+gives (Ok (Ticked o n)) t = 0
+gives (Ok (Completed u)) t = 0
+gives (Ok (Collected r)) t = 0
+gives (Ok (Stands σ)) t = 0
+gives (Err why) t = 0
 
 abbrev pub names : Call → ℕ → ℕ
 names (Request i a) t = 0
@@ -68,13 +69,13 @@ names (Done slot) t = 0
 names (Collect i u) t = one (u == t)
 names (StageOf i) t = 0
 
-abbrev pub collects : Call → Answer → ℕ → ℕ
-collects c (Ticket u) t = 0
-collects c (Ticked o n) t = 0
-collects c (Completed u) t = 0
-collects c (Collected r) t = names c t
-collects c (Stands σ) t = 0
-collects c (Refused why) t = 0
+abbrev pub collects : Call → Result Answer Refusal → ℕ → ℕ
+collects c (Ok (Ticket u)) t = 0
+collects c (Ok (Ticked o n)) t = 0
+collects c (Ok (Completed u)) t = 0
+collects c (Ok (Collected r)) t = names c t
+collects c (Ok (Stands σ)) t = 0
+collects c (Err why) t = 0
 
 -- how often ticket t was given, and collected
 abbrev pub given : Trace → ℕ → ℕ
@@ -87,12 +88,12 @@ collected (e ∷ h) t = collects e.call e.answer t + collected h t
 
 -- the request of a task for accelerator a was accepted with ticket t, and `later` are the calls since
 pub data Since (task a t : ℕ) : Trace → Trace → Type 0 where
-  here : {h : Trace} (s : State) → Since task a t [] (record { before = s; call = Request task a; answer = Ticket t } ∷ h)
+  here : {h : Trace} (s : State) → Since task a t [] (record { before = s; call = Request task a; answer = Ok (Ticket t) } ∷ h)
   there : {later h : Trace} (e : Event) → Since task a t later h → Since task a t (e ∷ later) (e ∷ h)
 
 -- ticket t of a task was collected, and r was told
 pub data Told (task t : ℕ) (r : Report) : Trace → Type 0 where
-  here : {h : Trace} (s : State) → Told task t r (record { before = s; call = Collect task t; answer = Collected r } ∷ h)
+  here : {h : Trace} (s : State) → Told task t r (record { before = s; call = Collect task t; answer = Ok (Collected r) } ∷ h)
   there : {h : Trace} (e : Event) → Told task t r h → Told task t r (e ∷ h)
 
 -- ---- ticks and counts of a request

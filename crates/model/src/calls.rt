@@ -1,6 +1,5 @@
 //! The calls of a scheduler and their answers.
 
-use crate::refusals::Refusal;
 use crate::requests::{Report, Stage};
 
 #[derive(Clone, Copy)]
@@ -12,8 +11,8 @@ pub enum Call {
     StageOf { task: u32 },
 }
 
-/// A ticket; the ticket written, if any, and how many requests ended; the ticket that is done;
-/// a report; a stage; or why the call is refused.
+/// What an accepted call answers: a ticket; the ticket written, if any, and how many requests ended; the ticket that is
+/// done; a report; or a stage.
 #[derive(Clone, Copy, PartialEq, Eq, Debug)]
 pub enum Answer {
     Ticket(u32),
@@ -21,5 +20,4 @@ pub enum Answer {
     Completed(u32),
     Collected(Report),
     Stands(Stage),
-    Refused(Refusal),
 }

@@ -1,25 +1,11 @@
-use Rattle.std.proofs.Common.{◌≡◌, ℕ, true, false, is_ok, Ok, Err, Result, sym, refl, arith}
-use Rattle.model.specs.declared.requests.Report.{Report}
-use Rattle.model.specs.declared.refusals.Refusal.{Refusal}
-use Rattle.claims.specs.declared.Claim.{Claim}
-use Rattle.claims.specs.Claims.{after}
+use Rattle.std.proofs.lemmas.Result.{err_from_is_err_and}
 use Rattle.claims.proofs.Awaiting.{gives_back}
 use Rattle.claims.proofs.collect_claim.Goals as goal
 
-spent : (c : Claim) (r : Result Report Refusal) → is_ok r ≡ true → record { task = 16; ticket = c.ticket } ≡ after c r
-spent c (Ok x) e = refl
-spent c (Err why) e = let z : ◌≡◌ {A = ℕ} 0 1 = cc in absurd (omega arith)
+pub returns-in_err-report-clause-given_back : goal.returns-in_err-report-clause-given_back
+returns-in_err-report-clause-given_back g c =
+    let p = err_from_is_err_and c.from_residual.result c.from_residual.ensures.1 in
+    rw (p.1, p.2) (gives_back c.in_err-report.ensures)
 
-left : (c : Claim) (r : Result Report Refusal) → is_ok r ≡ false → c ≡ after c r
-left c (Ok x) e = let z : ◌≡◌ {A = ℕ} 0 1 = cc in absurd (omega arith)
-left c (Err why) e = refl
-
-pub returns-then-is_ok : goal.returns-then-is_ok
-returns-then-is_ok g c =
-    let p = c.collect-answer.ensures in
-    record { performed = p; claim = spent _ _ (sym c.if-is_ok.ensures.value); given_back = gives_back p }
-
-pub returns-else-is_ok : goal.returns-else-is_ok
-returns-else-is_ok g c =
-    let p = c.collect-answer.ensures in
-    record { performed = p; claim = left _ _ (sym c.if-is_ok.ensures.value); given_back = gives_back p }
+pub returns-clause-given_back : goal.returns-clause-given_back
+returns-clause-given_back g c = gives_back c.in_ok-report.ensures

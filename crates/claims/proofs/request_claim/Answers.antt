@@ -1,18 +1,15 @@
 use Rattle.std.proofs.Common.{refl}
-use Rattle.plan.proofs.Questions.{kept}
-use Rattle.claims.proofs.Awaiting.{onward, keeps_all, handed, named}
+use Rattle.std.proofs.lemmas.Result.{err_from_is_err_and}
+use Rattle.claims.proofs.Awaiting.{onward, keeps_all, handed}
 use Rattle.claims.proofs.request_claim.Goals as goal
 
-pub returns-in-Ok : goal.returns-in-Ok
-returns-in-Ok g c =
-    let p = c.in-Ok.ensures in
-    record {
-      performed = p;
-      names = named p (kept c.args.scheduler.now.plan);
-      handed_over = record { keeps = keeps_all p (λ t. refl); goes_on = onward p; handed = handed p };
-    }
+pub returns-in_err-ticket-clause-handed_over : goal.returns-in_err-ticket-clause-handed_over
+returns-in_err-ticket-clause-handed_over g c =
+    let p = c.in_err-ticket.ensures in
+    let e = err_from_is_err_and c.from_residual.result c.from_residual.ensures.1 in
+    rw (e.1, e.2) (record { keeps = keeps_all p (λ t. refl); goes_on = onward p; handed = λ r. tt })
 
-pub returns-in-Err : goal.returns-in-Err
-returns-in-Err g c =
-    let p = c.in-Err.ensures in
-    record { performed = p; names = tt; handed_over = record { keeps = keeps_all p (λ t. refl); goes_on = onward p; handed = λ r. tt } }
+pub returns-clause-handed_over : goal.returns-clause-handed_over
+returns-clause-handed_over g c =
+    let p = c.in_ok-ticket.ensures in
+    record { keeps = keeps_all p (λ t. refl); goes_on = onward p; handed = handed p }

@@ -1,6 +1,6 @@
 //! The calls of the scheduler, and what they promise of every run.
 
-ghost use Rattle.std.specs.Prelude.{◌≡◌};
+ghost use Rattle.std.specs.Prelude.{◌≡◌, Ok};
 ghost use Rattle.plan.specs.Layouts.{layout};
 ghost use Rattle.model.specs.declared.calls.Answer.TheVariants.{Ticket, Ticked, Completed, Collected, Stands};
 ghost use Rattle.model.specs.declared.calls.Call.TheVariants.{Request, Tick, Done, Collect, StageOf};
@@ -34,7 +34,7 @@ impl<P: Port> Scheduler<P> {
 
     /// Lets a tick pass, and answers the ticket that was written, if any, and how many requests ended.
     pub fn tick(&mut self) -> (Option<u32>, u32)
-        ensures { Performed (state P.Port self.old) Tick (Ticked result.0 result.1) (state P.Port self.new) }
+        ensures { Performed (state P.Port self.old) Tick (Ok (Ticked result.0 result.1)) (state P.Port self.new) }
     {
         self.pass()
     }
@@ -61,30 +61,18 @@ impl<P: Port> Scheduler<P> {
     }
 
     /// Makes any of these calls. Programs that take calls as values go by this one.
-    pub fn perform(&mut self, call: Call) -> Answer
+    pub fn perform(&mut self, call: Call) -> Result<Answer, Refusal>
         ensures { Performed (state P.Port self.old) call result (state P.Port self.new) }
     {
-        match call {
-            Call::Request { task, accelerator } => match self.request(task, accelerator) {
-                Ok(ticket) => Answer::Ticket(ticket),
-                Err(refusal) => Answer::Refused(refusal),
-            },
+        Ok(match call {
+            Call::Request { task, accelerator } => Answer::Ticket(self.request(task, accelerator)?),
             Call::Tick => {
                 let (written, ended) = self.tick();
                 Answer::Ticked { written, ended }
             }
-            Call::Done { slot } => match self.done(slot) {
-                Ok(ticket) => Answer::Completed(ticket),
-                Err(refusal) => Answer::Refused(refusal),
-            },
-            Call::Collect { task, ticket } => match self.collect(task, ticket) {
-                Ok(report) => Answer::Collected(report),
-                Err(refusal) => Answer::Refused(refusal),
-            },
-            Call::StageOf { task } => match self.stage(task) {
-                Ok(stage) => Answer::Stands(stage),
-                Err(refusal) => Answer::Refused(refusal),
-            },
-        }
+            Call::Done { slot } => Answer::Completed(self.done(slot)?),
+            Call::Collect { task, ticket } => Answer::Collected(self.collect(task, ticket)?),
+            Call::StageOf { task } => Answer::Stands(self.stage(task)?),
+        })
     }
 }

@@ -1,6 +1,6 @@
 //! How each call is carried out.
 
-ghost use Rattle.std.specs.Prelude.{◌≡◌};
+ghost use Rattle.std.specs.Prelude.{◌≡◌, Ok};
 ghost use Rattle.model.specs.Calls.{request_answer, request_after, tick_answer, tick_after, done_answer, done_after, collect_answer, collect_after, stage_answer};
 ghost use Rattle.model.specs.declared.calls.Answer.TheVariants.{Ticket, Ticked, Completed, Collected, Stands};
 ghost use Rattle.engine.specs.Answers.{told};
@@ -55,7 +55,7 @@ impl<P: Port> Scheduler<P> {
 
     /// Passes a tick: the ticket written, if any, and how many requests ended.
     pub(super) fn pass(&mut self) -> (Option<u32>, u32)
-        ensures answer { Ticked result.0 result.1 ≡ tick_answer (state P.Port self.old) }
+        ensures answer { Ok (Ticked result.0 result.1) ≡ tick_answer (state P.Port self.old) }
         ensures after { state P.Port self.new ≡ tick_after (state P.Port self.old) }
     {
         let overrun = self.expire();
