@@ -56,7 +56,7 @@ impl Writing<'_> {
 /// Fills a row for each accelerator, in order, and leaves further rows as they are. With fewer rows it is refused.
 pub fn table<P: Port>(plan: &Plan, port: &P, rows: &mut [Row]) -> Result<(), Refusal>
     ensures answer { result ≡ table_answer (layout plan.now) (length rows.old) }
-    ensures after { rows.new ≡ table_after (layout plan.now) (P.Port.meaning port.now).rate P.Port.interrupts rows.old }
+    ensures after { rows.new ≡ table_after (layout plan.now) (P.Port.meaning port.now).rate P.Port.INTERRUPTIBLE rows.old }
 {
     let count = plan.accelerator_count();
     if rows.len() < count {
@@ -65,7 +65,7 @@ pub fn table<P: Port>(plan: &Plan, port: &P, rows: &mut [Row]) -> Result<(), Ref
     let writing = Writing {
         plan,
         rate: port.rate(),
-        interruptible: P::can_interrupt(),
+        interruptible: P::INTERRUPTIBLE,
     };
     for (a, row) in rows[..count].iter_mut().enumerate() {
         *row = writing.row(a);

@@ -13,4 +13,4 @@ next_number None = 4294967296
 
 abbrev pub state : {P : Type 0} → ports.Ghosts P → Scheduler P → State
 state port s =
-    record { layout = layout s.plan; interrupts = port.interrupts; records = s.records.table; lines = rows_of s.lines; next = next_number s.next; port = port.meaning s.port }
+    record { layout = layout s.plan; interrupts = port.INTERRUPTIBLE; records = s.records.table; lines = rows_of s.lines; next = next_number s.next; port = port.meaning s.port }

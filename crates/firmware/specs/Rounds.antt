@@ -9,7 +9,7 @@ use Rattle.claims.specs.Awaits.{Run, stay_in}
 
 -- what a port means under the layer
 abbrev pub layered : {P : Type 0} → ports.Ghosts P → ports.Ghosts (Renumbered P)
-layered port = record { interrupts = port.interrupts; meaning = renumbered_meaning port.meaning }
+layered port = record { interrupts = port.INTERRUPTIBLE; meaning = renumbered_meaning port.meaning }
 
 abbrev pub no_row : Row
 no_row = record { delay = 0; write = 0; stay = 0 }

@@ -72,7 +72,7 @@ fn print_row(out: &mut Vec<u8>, accelerator: u32, row: Row) -> Result<(), AllocE
 
 /// Adds the delay table, a line for each accelerator.
 fn print_table<P: Port>(out: &mut Vec<u8>, plan: &Plan, port: &P) -> Result<(), AllocError>
-    ensures { OnOk result (Added out.old.items (row_lines (layout plan.now) (P.Port.meaning port.now).rate P.Port.interrupts (length (layout plan.now).accelerators)) out.new.items) }
+    ensures { OnOk result (Added out.old.items (row_lines (layout plan.now) (P.Port.meaning port.now).rate P.Port.INTERRUPTIBLE (length (layout plan.now).accelerators)) out.new.items) }
 {
     let mut rows = [Row {
         delay: 0,
@@ -110,7 +110,7 @@ fn print_run<P: Port + Drop>(
     at: usize,
 ) -> Result<(), AllocError>
     requires { made_of P.Port.meaning port ≡ making rate }
-    ensures { OnOk result (Added out.old.items (on_rate (why_rate rate) (layout plan.now) rate P.Port.interrupts (lines_of (drop at script.now))) out.new.items) }
+    ensures { OnOk result (Added out.old.items (on_rate (why_rate rate) (layout plan.now) rate P.Port.INTERRUPTIBLE (lines_of (drop at script.now))) out.new.items) }
 {
     match port {
         Ok(port) => {

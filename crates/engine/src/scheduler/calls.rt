@@ -19,8 +19,8 @@ use ports::port::Port;
 impl<P: Port> Scheduler<P> {
     /// A scheduler with a plan, a port and its first ticket. It shuts all slots of the port.
     pub fn start(plan: Plan, port: P, first: u32) -> Scheduler<P>
-        ensures is { state P.Port result ≡ start (layout plan) P.Port.interrupts first (P.Port.meaning port) }
-        ensures opened { Opened (layout plan) P.Port.interrupts first (state P.Port result) }
+        ensures is { state P.Port result ≡ start (layout plan) P.Port.INTERRUPTIBLE first (P.Port.meaning port) }
+        ensures opened { Opened (layout plan) P.Port.INTERRUPTIBLE first (state P.Port result) }
     {
         Scheduler::fresh(plan, port, first)
     }

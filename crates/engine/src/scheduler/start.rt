@@ -23,7 +23,7 @@ fn shut_all<P: Port>(port: &mut P)
 impl<P: Port> Scheduler<P> {
     /// All slots shut and in line, no request, and `first` as the next ticket.
     pub(super) fn fresh(plan: Plan, mut port: P, first: u32) -> Scheduler<P>
-        ensures { state P.Port result ≡ start (layout plan) P.Port.interrupts first (P.Port.meaning port) }
+        ensures { state P.Port result ≡ start (layout plan) P.Port.INTERRUPTIBLE first (P.Port.meaning port) }
     {
         shut_all(&mut port);
         let lines = Lines::all_free(&plan);

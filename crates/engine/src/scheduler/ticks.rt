@@ -49,7 +49,7 @@ impl<P: Port> Scheduler<P> {
     pub(super) fn choose(&self) -> Option<Place>
         ensures { result ≡ choose (state P.Port self.now) }
     {
-        if !P::can_interrupt() {
+        if !P::INTERRUPTIBLE {
             if let Some(place) = self.begun() {
                 return Some(place);
             }
@@ -77,8 +77,8 @@ impl<P: Port> Scheduler<P> {
 
 /// Feeds a slot, and tells the stage of its request then.
 fn feed<P: Port>(port: &mut P, slot: u32) -> Stage
-    ensures is { result ≡ stage_after P.Port.interrupts (P.Port.meaning port.old) slot }
-    ensures after { P.Port.meaning port.new ≡ feed_after P.Port.interrupts (P.Port.meaning port.old) slot }
+    ensures is { result ≡ stage_after P.Port.INTERRUPTIBLE (P.Port.meaning port.old) slot }
+    ensures after { P.Port.meaning port.new ≡ feed_after P.Port.INTERRUPTIBLE (P.Port.meaning port.old) slot }
 {
     match port.feed(slot) {
         Ok(Fed::Flawed { block, board }) => Stage::Ended {

@@ -9,8 +9,8 @@ use Rattle.delays.proofs.table.table.Goals as goal
 pub loop-a-preserved : goal.loop-a-preserved
 loop-a-preserved g c =
     let a = c.loop-a.a in
-    let row = row_of (layout c.args.plan.now) (g.P.Port.meaning c.args.port.now).rate g.P.Port.interrupts in
-    let is : c.row.result ≡ row a = rw (← c.rate.ensures, ← c.can_interrupt.ensures) c.row.ensures in
+    let row = row_of (layout c.args.plan.now) (g.P.Port.meaning c.args.port.now).rate g.P.Port.INTERRUPTIBLE in
+    let is : c.row.result ≡ row a = rw (← c.rate.ensures, ← c.INTERRUPTIBLE.ensures) c.row.ensures in
     take_more_set c.loop-a.row-items a c.row.result (omega arith)
     ∙ ap (λ xs. xs ++ c.row.result ∷ []) c.loop-a.invariant
     ∙ ap (λ x. map row (range_with_len 0 a) ++ x ∷ []) is
