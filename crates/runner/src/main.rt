@@ -8,10 +8,7 @@ use std::{fs, io};
 
 fn main(rt: HostRuntime) -> io::Result<()> {
     // a plan that cannot be read counts as empty
-    let plan_text = match fs::read(&rt, "plan.txt") {
-        Ok(text) => text,
-        Err(_) => Vec::new(rt.alloc()),
-    };
+    let plan_text = fs::read(&rt, "plan.txt").unwrap_or_else(|_| Vec::new(rt.alloc()));
     let mut script = Vec::new(rt.alloc());
     rt.stdin().read_to_end(&mut script)?;
     let out = transcript(rt.alloc(), &plan_text, &script)?;

@@ -1,7 +1,6 @@
-pub mod Tables
 pub mod Powers
 pub mod Numerals
 pub mod Splits
-pub mod Prints
-pub mod Refused
+pub mod Later
+pub mod Table
 pub mod Made

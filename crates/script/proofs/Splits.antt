@@ -1,40 +1,28 @@
 -- A text split into its first line and the rest.
-use Rattle.std.proofs.Common.{◌≡◌, ℕ, suc, ◌+◌, ◌-◌, ◌<◌, ◌≤◌, eqb, ◌⊎◌, List, [], ◌∷◌, ◌++◌, length, get_or, take, drop, sym, ap, ◌∙◌, subst, inl, inr, ⊎_elim, arith}
-use Rattle.std.proofs.lemmas.List.{get_or-take, get_or-drop, length-take-le, length-drop, drop-drop, take-append-drop, drop_all}
-use Rattle.std.proofs.lemmas.Bool.{cond-true, cond-false, eq-eqb, ne_eqb, cases_Bool}
-use Rattle.script.specs.Lines.{lines_of, in_front, EndsLine}
+use Rattle.std.proofs.Common.{◌≡◌, ℕ, zero, suc, ◌+◌, ◌<◌, min, eqb, List, [], ◌∷◌, ◌++◌, length, refl, ap, ◌∙◌, subst, ⊎_elim, arith}
+use Rattle.std.specs.List.{IsFirstMatchOrLen}
+use Rattle.std.proofs.lemmas.Bool.{cond-true, cond-false, cases_Bool}
+use Rattle.script.specs.Lines.{lines_of, in_front}
 
--- xs is a line: no byte 10 stands before its last byte, which is byte 10 or the last of all
-pub one_line : (xs ys : List ℕ) → 1 ≤ length xs → ((k : ℕ) → k + 1 < length xs → get_or xs k 0 ≡ 10 → ⊥) → (get_or xs (length xs - 1) 0 ≡ 10) ⊎ (ys ≡ []) → lines_of (xs ++ ys) ≡ xs ∷ lines_of ys
+pub no_lines : (t : List ℕ) → length t ≡ 0 → lines_of t ≡ []
 unfolding lines_of
-one_line [] ys some no' last = absurd (omega arith)
-one_line (x ∷ []) ys some no' last =
-    ⊎_elim
-    (λ end. cond-true _ _ _ (eq-eqb x 10 end))
-    (λ all. subst (λ zs. lines_of (x ∷ zs) ≡ (x ∷ []) ∷ lines_of zs) (sym all) (⊎_elim (λ is. cond-true _ _ _ is) (λ is. cond-false _ _ _ is) (cases_Bool (eqb x 10))))
-    last
-one_line (x ∷ y ∷ xs) ys some no' last =
-    let same : suc (length (y ∷ xs) - 1) ≡ length (x ∷ y ∷ xs) - 1 = omega arith in
-    let ih = one_line (y ∷ xs) ys (omega arith) (λ k h. no' (suc k) (omega arith)) (⊎_elim (λ e. inl (ap (λ n. get_or (x ∷ y ∷ xs) n 0) same ∙ e)) inr last) in
-    cond-false _ _ _ (ne_eqb x 10 (no' 0 (omega arith))) ∙ ap (in_front x) ih
+no_lines [] e = refl
+no_lines (b ∷ bs) e = absurd (omega arith)
 
--- the same at places of a text
-pub line_ends : (t : List ℕ) (at end : ℕ) → at < end → end ≤ length t → ((k : ℕ) → at ≤ k → k + 1 < end → get_or t k 0 ≡ 10 → ⊥) → (get_or t (end - 1) 0 ≡ 10) ⊎ (length t ≤ end) → EndsLine t at end
-line_ends t at end more within no' last =
-    let xs = take (end - at) (drop at t) in
-    let long : length xs ≡ end - at = length-take-le (end - at) (drop at t) (omega (arith, length-drop at t)) in
-    let byte : (k : ℕ) → k < end - at → get_or xs k 0 ≡ get_or t (at + k) 0 = λ k h. get_or-take (end - at) (drop at t) k 0 h ∙ get_or-drop at t k 0 in
-    let rest : drop (end - at) (drop at t) ≡ drop end t = drop-drop (end - at) at t ∙ ap (λ n. drop n t) (let same : at + (end - at) ≡ end = omega arith in same) in
-    let whole : drop at t ≡ xs ++ drop end t = sym (take-append-drop (end - at) (drop at t)) ∙ ap (λ l. xs ++ l) rest in
-    record {
-      more = more;
-      within = within;
-      line =
-          ap lines_of whole
-          ∙ one_line xs (drop end t) (omega (arith, long))
-          (λ k h e. no' (at + k) (omega arith) (omega (arith, long)) (sym (byte k (omega (arith, long))) ∙ e))
-          (⊎_elim
-          (λ e. inl (ap (λ n. get_or xs n 0) (let same : length xs - 1 ≡ end - at - 1 = omega (arith, long) in same) ∙ byte (end - at - 1) (omega arith) ∙ ap (λ n. get_or t n 0) (let same : at + (end - at - 1) ≡ end - 1 = omega arith in same) ∙ e))
-          (λ all. inr (drop_all end t all))
-          last);
-    }
+-- xs ends after the first byte 10 of the text, or at its end
+first_line_is : (i : ℕ) (xs ys : List ℕ) → length xs ≡ min (i + 1) (length (xs ++ ys)) → 0 < length (xs ++ ys) → IsFirstMatchOrLen (λ b. eqb b 10) (xs ++ ys) i → lines_of (xs ++ ys) ≡ xs ∷ lines_of ys
+unfolding lines_of
+first_line_is i [] ys long some first = absurd (omega arith)
+first_line_is i (x ∷ []) [] long some first = ⊎_elim (λ is. cond-true _ _ _ is) (λ is. cond-false _ _ _ is) (cases_Bool (eqb x 10))
+first_line_is zero (x ∷ []) (y ∷ ys) long some first = cond-true _ _ _ (first.1 some x)
+first_line_is (suc i) (x ∷ []) (y ∷ ys) long some first = absurd (omega arith)
+first_line_is zero (x ∷ y ∷ xs) ys long some first = absurd (omega arith)
+first_line_is (suc i) (x ∷ y ∷ xs) ys long some first =
+    cond-false _ _ _ (first.0 0 x (omega arith) (omega arith))
+    ∙ ap (in_front x) (first_line_is i (y ∷ xs) ys (omega arith) (omega arith) (λ k d low high. first.0 (suc k) d (omega arith) (omega arith), λ h d. first.1 (omega arith) d))
+
+-- the same of a text t that is split into xs and ys
+pub split : (t xs ys : List ℕ) (i : ℕ) → t ≡ xs ++ ys → length xs ≡ min (i + 1) (length t) → 0 < length t → IsFirstMatchOrLen (λ b. eqb b 10) t i → lines_of t ≡ xs ∷ lines_of ys
+split t xs ys i e long some first =
+    ap lines_of e
+    ∙ first_line_is i xs ys (subst (λ z. length xs ≡ min (i + 1) (length z)) e long) (subst (λ z. 0 < length z) e some) (subst (λ z. IsFirstMatchOrLen (λ b. eqb b 10) z i) e first)

@@ -1,3 +1,3 @@
-pub mod Prints
+pub mod Refusals
 pub mod Lines
 pub mod Transcripts

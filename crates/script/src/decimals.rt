@@ -1,7 +1,6 @@
 //! Numbers printed in decimal.
 
-ghost use Rattle.std.specs.Prelude.{◌≡◌, ◌+◌, ◌/◌, ◌%◌, ◌^◌, ◌<◌, ◌≤◌, decimal, OnOk};
-ghost use Rattle.script.specs.Prints.{Added};
+ghost use Rattle.std.specs.Prelude.{◌≡◌, ◌+◌, ◌-◌, ◌/◌, ◌%◌, ◌^◌, ◌<◌, ◌≤◌, ◌++◌, decimal, OnOk};
 
 use std::alloc::AllocError;
 
@@ -34,27 +33,20 @@ fn digit(n: u32, k: usize) -> u8
     b'0' + (n / power(k) % 10) as u8
 }
 
-/// The place of the first digit of `n`, from the right.
-fn highest(n: u32) -> usize
-    ensures within { result < 10 }
-    ensures below { n < 10 ^ (result + 1) }
-    ensures above { 0 < result → 10 ^ result ≤ n }
+/// How many digits the numeral of `n` has: one, and one more for each further power that `n` reaches.
+fn digits(n: u32) -> usize
+    ensures within { (1 ≤ result) × (result ≤ 10) }
+    ensures below { n < 10 ^ result }
+    ensures above { 1 < result → 10 ^ (result - 1) ≤ n }
 {
-    let mut k = 9;
-    while k > 0 && n < power(k) {
-        k -= 1;
-    }
-    k
+    1 + POWERS[1..].iter().take_while(|power| **power <= n).count()
 }
 
 /// Adds the decimal numeral of `n` to `out`.
 pub(crate) fn print_number(out: &mut Vec<u8>, n: u32) -> Result<(), AllocError>
-    ensures { OnOk result (Added out.old.items (decimal n) out.new.items) }
+    ensures { OnOk result (out.new.items ≡ out.old.items ++ decimal n) }
 {
-    let mut k = highest(n);
-    out.push(digit(n, k))?;
-    while k > 0 {
-        k -= 1;
+    for k in (0..digits(n)).rev() {
         out.push(digit(n, k))?;
     }
     Ok(())

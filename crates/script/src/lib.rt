@@ -4,4 +4,5 @@
 
 mod decimals;
 mod lines;
+mod refusals;
 pub mod transcript;

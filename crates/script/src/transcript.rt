@@ -1,156 +1,88 @@
 //! The transcript of a plan text and a script.
 
-ghost use Rattle.std.specs.Prelude.{◌≡◌, ◌≤◌, Bool, length, drop, IfOk, OnOk};
+ghost use Rattle.std.specs.Prelude.{◌≡◌, ◌++◌, length, IfOk, OnOk};
 ghost use Rattle.plan.specs.Layouts.{layout};
-ghost use Rattle.ports.specs.Calls.{making, made_of, why_rate};
+ghost use Rattle.ports.specs.Calls.{why_rate};
 ghost use Rattle.script.specs.Lines.{lines_of};
-ghost use Rattle.script.specs.Prints.{Added};
-ghost use Rattle.script.specs.Transcripts.{spaced, no_line, plan_line, row_line, row_lines, later_lines, on_rate, on_port, on_script, transcript_of};
+ghost use Rattle.script.specs.Transcripts.{line_of, row_lines, later_lines, on_rate, on_script, transcript_of};
 
 use crate::decimals::print_number;
-use crate::lines::{Kind, line_end, read_port};
+use crate::lines::{Kind, read_script};
+use crate::refusals::ScriptRefusal;
 use delays::table::{Row, table};
-use plan::faults::Fault;
 use plan::plan::Plan;
 use plan::plan::read::read;
-use ports::answers::Refusal;
-use ports::interruptible::Interruptible;
+use ports::delivered::Delivered;
+use ports::interruptible::EverySlot;
+use ports::memory::Memory;
 use ports::port::Port;
-use ports::uninterruptible::Uninterruptible;
+use ports::uninterruptible::OneSlot;
 use std::alloc::{AllocError, Global};
 
-/// Adds some bytes.
-fn print_bytes(out: &mut Vec<u8>, bytes: &[u8]) -> Result<(), AllocError>
-    ensures { OnOk result (Added out.old.items bytes.now out.new.items) }
+/// Adds a line of a word and numbers.
+// `out` is a plain `Vec`, since the check joins its appends by itself; a struct around it would be no plainer
+fn print_line(out: &mut Vec<u8>, word: &[u8], numbers: &[u32]) -> Result<(), AllocError>
+    ensures { OnOk result (out.new.items ≡ out.old.items ++ line_of word.now numbers.now) }
 {
-    out.extend_from_slice(bytes)
-}
-
-/// Adds a space and a number.
-fn print_spaced(out: &mut Vec<u8>, n: u32) -> Result<(), AllocError>
-    ensures { OnOk result (Added out.old.items (spaced n) out.new.items) }
-{
-    print_bytes(out, b" ")?;
-    print_number(out, n)?;
-    Ok(())
-}
-
-/// Adds the line of a refusal.
-fn print_refusal(out: &mut Vec<u8>, number: u32) -> Result<(), AllocError>
-    ensures { OnOk result (Added out.old.items (no_line number) out.new.items) }
-{
-    print_bytes(out, b"no")?;
-    print_spaced(out, number)?;
-    print_bytes(out, b"\n")?;
-    Ok(())
-}
-
-/// Adds the line of a plan that is refused.
-fn print_fault(out: &mut Vec<u8>, fault: &Fault) -> Result<(), AllocError>
-    ensures { OnOk result (Added out.old.items (plan_line fault.now) out.new.items) }
-{
-    print_bytes(out, b"plan")?;
-    print_spaced(out, fault.number())?;
-    print_spaced(out, fault.line())?;
-    print_spaced(out, fault.field())?;
-    print_bytes(out, b"\n")?;
-    Ok(())
-}
-
-/// Adds the line of an accelerator's row.
-fn print_row(out: &mut Vec<u8>, accelerator: u32, row: Row) -> Result<(), AllocError>
-    ensures { OnOk result (Added out.old.items (row_line accelerator row) out.new.items) }
-{
-    print_bytes(out, b"a")?;
-    print_spaced(out, accelerator)?;
-    print_spaced(out, row.delay)?;
-    print_spaced(out, row.write)?;
-    print_spaced(out, row.stay)?;
-    print_bytes(out, b"\n")?;
+    out.extend_from_slice(word)?;
+    for n in numbers {
+        out.push(b' ')?;
+        print_number(out, *n)?;
+    }
+    out.push(b'\n')?;
     Ok(())
 }
 
 /// Adds the delay table, a line for each accelerator.
 fn print_table<P: Port>(out: &mut Vec<u8>, plan: &Plan, port: &P) -> Result<(), AllocError>
-    ensures { OnOk result (Added out.old.items (row_lines (layout plan.now) (P.Port.meaning port.now).rate P.Port.INTERRUPTIBLE (length (layout plan.now).accelerators)) out.new.items) }
+    ensures { OnOk result (out.new.items ≡ out.old.items ++ row_lines (layout plan.now) (P.Port.meaning port.now).rate P.Port.INTERRUPTIBLE (length (layout plan.now).accelerators)) }
 {
-    let mut rows = [Row {
-        delay: 0,
-        write: 0,
-        stay: 0,
-    }; 32];
+    let mut rows = [Row::default(); 32];
     // never refused: a plan has at most 32 accelerators
     let _ = table(plan, port, &mut rows);
-    for a in 0..plan.accelerator_count() {
-        print_row(out, a as u32, rows[a])?;
+    for (a, row) in rows[..plan.accelerator_count()].iter().enumerate() {
+        print_line(out, b"a", &[a as u32, row.delay, row.write, row.stay])?;
     }
     Ok(())
 }
 
-/// Adds the refusal of each line of the script from `at` on.
-fn print_later(out: &mut Vec<u8>, script: &[u8], at: usize) -> Result<(), AllocError>
-    ensures { OnOk result (Added out.old.items (later_lines (lines_of (drop at script.now))) out.new.items) }
+/// Adds the refusal of each line.
+fn print_later(out: &mut Vec<u8>, lines: &[u8]) -> Result<(), AllocError>
+    ensures { OnOk result (out.new.items ≡ out.old.items ++ later_lines (lines_of lines.now)) }
 {
-    let mut next = at;
-    while next < script.len() {
-        next = line_end(script, next);
-        print_refusal(out, 60)?;
+    for _line in lines.split_inclusive(|byte| *byte == b'\n') {
+        print_line(out, b"no", &[ScriptRefusal::BadLine.number()])?;
     }
     Ok(())
 }
 
-/// Adds the table on a port that was made from `rate`, and the refusals of the script's lines from `at` on; or why there is
-/// no port.
-fn print_run<P: Port + Drop>(
+/// Adds the table on a port of a kind, which is made from `rate`, and the refusals of the rest of the script's lines; or why
+/// there is no port.
+fn print_run<M: Memory + Drop>(
     out: &mut Vec<u8>,
     plan: &Plan,
-    port: Result<P, Refusal>,
     rate: u32,
-    script: &[u8],
-    at: usize,
+    rest: &[u8],
 ) -> Result<(), AllocError>
-    requires { made_of P.Port.meaning port ≡ making rate }
-    ensures { OnOk result (Added out.old.items (on_rate (why_rate rate) (layout plan.now) rate P.Port.INTERRUPTIBLE (lines_of (drop at script.now))) out.new.items) }
+    ensures { OnOk result (out.new.items ≡ out.old.items ++ on_rate (why_rate rate) (layout plan.now) rate M.Memory.INTERRUPTIBLE (lines_of rest.now)) }
 {
-    match port {
+    match Delivered::<M>::new(rate) {
         Ok(port) => {
             print_table(out, plan, &port)?;
-            print_later(out, script, at)?;
-            Ok(())
+            print_later(out, rest)
         }
-        Err(refusal) => print_refusal(out, refusal.number()),
+        Err(refusal) => print_line(out, b"no", &[refusal.number()]),
     }
 }
 
 /// Adds what a script prints on a plan that was accepted.
 fn print_script(out: &mut Vec<u8>, plan: &Plan, script: &[u8]) -> Result<(), AllocError>
-    ensures { OnOk result (Added out.old.items (on_script (layout plan.now) script.now) out.new.items) }
+    ensures { OnOk result (out.new.items ≡ out.old.items ++ on_script (layout plan.now) script.now) }
 {
-    if script.len() > 65_536 {
-        return print_refusal(out, 61);
-    }
-    if script.is_empty() {
-        return print_refusal(out, 60);
-    }
-    let end = line_end(script, 0);
-    match read_port(&script[0..end]) {
-        Ok((Kind::Interruptible, rate)) => print_run(
-            out,
-            plan,
-            Interruptible::new(rate),
-            rate,
-            script,
-            end,
-        ),
-        Ok((Kind::Uninterruptible, rate)) => print_run(
-            out,
-            plan,
-            Uninterruptible::new(rate),
-            rate,
-            script,
-            end,
-        ),
-        Err(_) => print_refusal(out, 60),
+    match read_script(script) {
+        Ok((Kind::Interruptible, rate, rest)) => print_run::<EverySlot>(out, plan, rate, rest),
+        Ok((Kind::Uninterruptible, rate, rest)) => print_run::<OneSlot>(out, plan, rate, rest),
+        Err(unread) => print_line(out, b"no", &[unread.number()]),
     }
 }
 
@@ -162,7 +94,11 @@ pub fn transcript(heap: Global, plan_text: &[u8], script: &[u8]) -> Result<Vec<u
     let mut plan = Plan::empty();
     match read(plan_text, &mut plan) {
         Ok(()) => print_script(&mut out, &plan, script)?,
-        Err(fault) => print_fault(&mut out, &fault)?,
+        Err(fault) => print_line(
+            &mut out,
+            b"plan",
+            &[fault.number(), fault.line(), fault.field()],
+        )?,
     }
     Ok(out)
 }

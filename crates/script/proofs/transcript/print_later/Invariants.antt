@@ -1,9 +1,10 @@
-use Rattle.std.proofs.Common.{◌-◌, length, vec_items}
-use Rattle.script.proofs.Refused.{RefusedTo}
+use Rattle.std.proofs.Common.{◌≡◌, ◌++◌}
+use Rattle.std.specs.Slice.Iter.{split_inclusive_rest}
+use Rattle.script.specs.Lines.{lines_of}
+use Rattle.script.specs.Transcripts.{later_lines}
 use Rattle.script.proofs.transcript.print_later.Given as goal
 
-abbrev pub invariant-loop-next : goal.invariant-loop-next
-invariant-loop-next l = RefusedTo l.script l.initial.next l.next (vec_items l.initial.out) (vec_items l.out)
-
-abbrev pub decreases-loop-next : goal.decreases-loop-next
-decreases-loop-next l = length l.script - l.next
+-- the refusals so far, and those of the lines that are left
+abbrev pub invariant-loop-line : goal.invariant-loop-line
+invariant-loop-line l =
+    l.out.items ++ later_lines (lines_of (split_inclusive_rest l._line-iterator)) ≡ l.initial.out.items ++ later_lines (lines_of l.lines)
