@@ -13,5 +13,5 @@ pub loop-a-preserved : goal.loop-a-preserved
 loop-a-preserved g c =
     let l = layout c.args.plan.now in
     let zero : Row = record { delay = 0; write = 0; stay = 0 } in
-    let here = row_here l _ _ (replicate 32 zero) _ _ _ zero c.table.ensures.after c.accelerator_count.ensures.is c.accelerator_count.ensures.few c.loop-a-test.true in
+    let here = row_here l _ _ (replicate 32 c.default-rows.result) _ _ _ zero c.table.ensures.after c.accelerator_count.ensures.is c.accelerator_count.ensures.few c.loop-a-test.true in
     row_more l _ _ _ _ _ _ _ c.loop-a.invariant here c.in_ok-print_line.ensures
