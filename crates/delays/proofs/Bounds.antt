@@ -9,7 +9,6 @@ use Rattle.plan.specs.declared.parts.Accelerator.{Accelerator}
 use Rattle.plan.specs.Rules.{Layout, Rules, idle}
 use Rattle.delays.specs.Delays.{partition_at, accelerator_at, write_ticks, weight_for, heaviest, others, ticks_elsewhere, longest_elsewhere, accelerators_in, held_up, delay}
 use Rattle.delays.proofs.Greatests.{greatest_within}
-use Rattle.delays.proofs.Times.{rounded_within}
 
 module _ (l : Layout) (rules : Rules l) where
   pub size_within : (k : ℕ) → (partition_at l k).size ≤ 1000000
@@ -29,7 +28,7 @@ module _ (l : Layout) (rules : Rules l) where
 
   module _ (rate : ℕ) (paced : 1 ≤ rate) where
     pub write_within : (b : Accelerator) → write_ticks l rate b ≤ 1000000
-    write_within b = omega (arith, rounded_within (partition_at l b.partition).size rate paced, size_within b.partition)
+    write_within b = grind (arith, size_within b.partition)
 
     pub heaviest_within : (k n j : ℕ) → n ≤ 8 → heaviest l rate k n j ≤ 9000000
     heaviest_within k n j few =
