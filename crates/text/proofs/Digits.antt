@@ -1,7 +1,10 @@
 -- A number is the run of digits at the front of the bytes.
-use Rattle.std.proofs.Common.{◌≡◌, ℕ, zero, suc, ◌+◌, ◌-◌, ◌*◌, ◌^◌, ◌<◌, ◌≤◌, true, false, List, [], ◌∷◌, length, get_or, take, Ok, Err, sym, refl, ap, ◌∙◌, ⊎_elim, arith}
+use Rattle.std.proofs.Common.{Bor, Some, Option, drop, ◌≡◌, ℕ, zero, suc, ◌+◌, ◌-◌, ◌*◌, ◌^◌, ◌<◌, ◌≤◌, true, false, List, [], ◌∷◌, length, get_or, take, Ok, Err, sym, refl, ap, ◌∙◌, ⊎_elim, arith}
 use Rattle.std.specs.Char.{is_ascii_digit}
 use Rattle.std.specs.List.{prefix_len, take_while}
+use Rattle.std.specs.Slice.{IsGetRangeResult}
+use Rattle.std.proofs.lemmas.Option.{MatchOption-at_some}
+use Rattle.std.proofs.lemmas.Slice.{between_to_end}
 use Rattle.std.proofs.lemmas.Bool.{cond-true, cond-false, cases_Bool}
 use Rattle.std.proofs.lemmas.List.Folds.{length-prefix_len}
 use Rattle.std.proofs.lemmas.List.{get_or-take, length-take}
@@ -17,6 +20,10 @@ use Rattle.text.proofs.Written.{digit_from}
 -- how many digits stand at the front
 abbrev pub run : List ℕ → ℕ
 run bs = prefix_len is_ascii_digit bs
+
+-- the bytes from a place on, where a slice has them
+pub rest_is : (t : List ℕ) (n : ℕ) (r : Bor (List ℕ)) (o : Option (Bor (List ℕ))) → o ≡ Some r → IsGetRangeResult t n (length t) o → r.now ≡ drop n t
+rest_is t n r o e is = (MatchOption-at_some _ _ r e is.0).2 ∙ between_to_end t n (length t) (omega arith)
 
 pub run_length : (bs : List ℕ) → length (take_while is_ascii_digit bs) ≡ run bs
 run_length bs = length-prefix_len is_ascii_digit bs

@@ -1,6 +1,6 @@
 //! The reader of a plan's text.
 
-ghost use Rattle.std.specs.Prelude.{◌≡◌, ℕ, ◌-◌, ◌≤◌, List, IfOk, Result};
+ghost use Rattle.std.specs.Prelude.{◌≡◌, ℕ, ◌-◌, ◌≤◌, List, length, IfOk, Result};
 ghost use Rattle.plan.specs.declared.faults.Flaw.{Flaw};
 ghost use Rattle.plan.specs.Reading.{numbers_at, bounded, contents_from, contents_at, ContentsKept, partition_from, PartitionRanged, partition_at, less, accelerator_from, AcceleratorRanged, accelerator_at, items_at, itemized, reading};
 ghost use Rattle.plan.specs.Rules.{PartitionKept};
@@ -100,28 +100,27 @@ fn partition_line(text: &[u8], at: usize, left: Left) -> Result<(Partition, usiz
     Ok((partition, next))
 }
 
-/// The accelerator that has these numbers, of one of so many partitions and tasks.
-fn accelerator_from(numbers: [u64; 4], partitions: u32, tasks: u32) -> Result<Accelerator, Flaw>
-    requires { (1 ≤ partitions) × (1 ≤ tasks) }
-    ensures is { result ≡ accelerator_from partitions tasks numbers }
-    ensures inside { IfOk result (AcceleratorRanged partitions tasks) }
+/// The accelerator that has these numbers, of one of the partitions and of one of the tasks.
+fn accelerator_from(numbers: [u64; 4], owners: Owners) -> Result<Accelerator, Flaw>
+    ensures is { result ≡ accelerator_from (length owners.entry.partitions.now) owners.entry.tasks numbers }
+    ensures inside { IfOk result (AcceleratorRanged (length owners.entry.partitions.now) owners.entry.tasks) }
 {
     let [partition, owner, need, run] = numbers;
+    let last_partition = owners.partitions.len() as u32 - 1;
     Ok(Accelerator {
-        partition: within(partition, 0, partitions - 1, 1)?,
-        owner: within(owner, 0, tasks - 1, 2)?,
+        partition: within(partition, 0, last_partition, 1)?,
+        owner: within(owner, 0, owners.tasks - 1, 2)?,
         need: within(need, 1, 1_000_000, 3)?,
         run: within(run, 1, 1_000_000, 4)?,
     })
 }
 
-/// The accelerator at `at`, of one of the partitions and of one of the tasks.
+/// The accelerator at `at`.
 fn accelerator_line(text: &[u8], at: usize, owners: Owners) -> Result<(Accelerator, usize), Flaw>
     ensures { result ≡ accelerator_at text.now owners.entry.partitions.now owners.entry.tasks at }
 {
     let (numbers, next) = numbers::<4>(text, at, Kind::Accelerator)?;
-    let count = owners.partitions.len() as u32;
-    let accelerator = accelerator_from(numbers, count, owners.tasks)?;
+    let accelerator = accelerator_from(numbers, owners)?;
     if accelerator.need > owners.partitions[accelerator.partition as usize].size {
         return Err(Flaw::Broken(Rule::SlotSize));
     }

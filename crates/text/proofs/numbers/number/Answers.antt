@@ -1,18 +1,15 @@
-use Rattle.std.proofs.Common.{◌≡◌, length, take, drop, ap, ◌∙◌, arith}
+use Rattle.std.proofs.Common.{◌≡◌, take, drop, ap, ◌∙◌, arith}
 use Rattle.std.specs.Result.{result_ok}
 use Rattle.std.proofs.lemmas.List.{take_all}
-use Rattle.std.proofs.lemmas.Option.{MatchOption-at_some}
-use Rattle.std.proofs.lemmas.Slice.{between_to_end}
 use Rattle.text.specs.Forms.{written}
-use Rattle.text.proofs.Digits.{run, run_length, numeral_run, numeral_over, numeral_none, next_digit, room, one_more}
+use Rattle.text.proofs.Digits.{rest_is, run, run_length, numeral_run, numeral_over, numeral_none, next_digit, room, one_more}
 use Rattle.text.proofs.numbers.number.Goals as goal
 use Rattle.text.proofs.numbers.number.Goals.{then-count-eq0-via-then-count-eq0, then-count-eq0-via-else-count-eq0+then-count-most}
 
 pub returns-then-count-eq0-clause-is : goal.returns-then-count-eq0-clause-is
 returns-then-count-eq0-clause-is c =
     let bs = drop c.args.at c.args.text.now in
-    let some = c.ok_or.ensures.ok_part ∙ ap result_ok c.in_ok-rest.was in
-    let rest = (MatchOption-at_some _ _ c.in_ok-rest.rest some c.get.ensures.lookup.0).2 ∙ between_to_end c.args.text.now c.args.at (length c.args.text.now) (omega arith) in
+    let rest = rest_is c.args.text.now c.args.at c.in_ok-rest.rest c.get.result (c.ok_or.ensures.ok_part ∙ ap result_ok c.in_ok-rest.was) c.get.ensures.lookup in
     let count : c.digits_in_front-count.result ≡ run bs = c.digits_in_front-count.ensures ∙ run_length c.in_ok-rest.rest.now ∙ ap run rest in
     elim c.then-count-eq0.branch [
       | then-count-eq0-via-then-count-eq0 w ↦ numeral_none _ _ bs (omega arith)
@@ -38,8 +35,7 @@ loop-digit-preserved c =
 pub returns-clause-is : goal.returns-clause-is
 returns-clause-is c =
     let bs = drop c.args.at c.args.text.now in
-    let some = c.ok_or.ensures.ok_part ∙ ap result_ok c.in_ok-rest.was in
-    let rest : c.in_ok-rest.rest.now ≡ bs = (MatchOption-at_some _ _ c.in_ok-rest.rest some c.get.ensures.lookup.0).2 ∙ between_to_end c.args.text.now c.args.at (length c.args.text.now) (omega arith) in
+    let rest : c.in_ok-rest.rest.now ≡ bs = rest_is c.args.text.now c.args.at c.in_ok-rest.rest c.get.result (c.ok_or.ensures.ok_part ∙ ap result_ok c.in_ok-rest.was) c.get.ensures.lookup in
     let count : c.digits_in_front-count.result ≡ run bs = c.digits_in_front-count.ensures ∙ run_length c.in_ok-rest.rest.now ∙ ap run rest in
     let whole = take_all c.loop-digit.digit-index (take c.digits_in_front-count.result c.in_ok-rest.rest.now) (omega arith) in
     let front : take c.digits_in_front-count.result c.in_ok-rest.rest.now ≡ take (run bs) bs = cc in
