@@ -1,11 +1,8 @@
 -- What a plan answers, and that every plan keeps the rules.
-use Rattle.std.proofs.Common.{◌≡◌, ℕ, zero, suc, ◌+◌, ◌<◌, ◌≤◌, ◌⊎◌, List, length, get_or, refl, subst, inl, inr, ⊎_elim, arith}
-use Rattle.std.proofs.lemmas.List.Sums.{sum_by_more, sum_by-take-le}
-use Rattle.plan.specs.declared.parts.Partition.{Partition}
+use Rattle.std.proofs.Common.{◌≡◌, ℕ, zero, suc, ◌≤◌, ◌⊎◌, length, refl, inl, inr, ⊎_elim, arith}
 use Rattle.plan.specs.declared.plan.Plan.{Plan}
 use Rattle.plan.specs.Layouts.{layout}
-use Rattle.plan.specs.Rules.{Layout, Rules, none, slots_in}
-use Rattle.plan.specs.Slots.{first_slot}
+use Rattle.plan.specs.Rules.{Layout, Rules}
 
 pub kept : (p : Plan) → Rules (layout p)
 kept p = p.rules
@@ -27,11 +24,3 @@ partitions_few p = (few (layout p) (kept p)).1
 
 pub accelerators_few : (p : Plan) → length (layout p).accelerators ≤ 32
 accelerators_few p = (few (layout p) (kept p)).2
-
-module _ (p : Plan) (ps : List Partition) (all : ps ≡ (layout p).partitions) (k : ℕ) (there : k < length ps) where
-  -- the slots of one more partition
-  pub slots_more : first_slot (layout p) (k + 1) ≡ first_slot (layout p) k + (get_or ps k none).slots
-  slots_more = rw all (sum_by_more slots_in (layout p).partitions k none (subst (λ l. k < length l) all there))
-
-  pub slots_few : first_slot (layout p) k + (get_or ps k none).slots ≤ 32
-  slots_few = omega (arith, slots_more, sum_by-take-le slots_in (layout p).partitions (k + 1), p.rules.slots)

@@ -1,10 +1,7 @@
-use Rattle.std.proofs.Common.{◌≡◌, Err, sym, refl, ap, ◌∙◌, arith, rules}
+use Rattle.std.proofs.Common.{◌≡◌, Err, sym, ap, ◌∙◌, arith, rules}
 use Rattle.std.proofs.lemmas.Result.{err_from_is_err_and, IfOk-at_ok}
-use Rattle.plan.proofs.Items.{begun, flawed, one_more, all_read, said_of, ok_below}
+use Rattle.plan.proofs.Items.{flawed, one_more, all_read, said_of, ok_below}
 use Rattle.plan.proofs.plan.read.items.Goals as goal
-
-pub loop-line-init : goal.loop-line-init
-loop-line-init g c = rw (c.new-items.ensures, c.into_iter-line-iterator.ensures.into_iter_gives) (begun _ _ _ _ _ _, refl)
 
 pub returns-in_err-item : goal.returns-in_err-item
 returns-in_err-item g c =
@@ -13,9 +10,6 @@ returns-in_err-item g c =
     let so = c.loop-line.invariant.0 in
     let said = said_of c.in-Some.line c.item.result c.map_err.result _ _ _ _ c.in_err-item.was c.map_err.ensures.cases (λ f e p. search rules) c.item.ensures.is steps.1.1 in
     rw p.1 (flawed _ _ _ _ _ _ so (omega (arith, so.size)) p.0 (ap Err p.2 ∙ said))
-
-pub push-requires : goal.push-requires
-push-requires g c = (search rules, (let steps = c.in-Some.ensures.steps in omega (arith, c.loop-line.invariant.0.size)))
 
 pub loop-line-preserved : goal.loop-line-preserved
 loop-line-preserved g c =
