@@ -1,7 +1,7 @@
 -- A text is accepted exactly when it says a layout that keeps the rules, and that layout is what is read.
-use Rattle.std.proofs.Common.{◌≡◌, ℕ, ◌+◌, ◌≤◌, eqb, ltb, List, [], ◌∷◌, ◌++◌, length, take, drop, Ok, Err, sym, ap, ◌∙◌, subst, append-nil, arith, length-append}
+use Rattle.std.proofs.Common.{◌≡◌, ℕ, ◌+◌, ◌-◌, ◌≤◌, eqb, ltb, List, [], ◌∷◌, ◌++◌, length, drop, Ok, Err, Result, sym, ap, ◌∙◌, subst, append-nil, arith, length-append}
 use Rattle.std.proofs.lemmas.List.{drop_all}
-use Rattle.std.proofs.lemmas.Bool.{cond-true, cond-false, le-ltb, ltb-false, eq-eqb, eqb-true}
+use Rattle.std.proofs.lemmas.Bool.{cond-true, cond-false, le-ltb, ltb-false, eq-eqb, eqb-true, ne_eqb}
 use Rattle.text.specs.Results.{and_then}
 use Rattle.text.proofs.Written.{refused, and_then_ok, kept_in, taken_in}
 use Rattle.plan.specs.declared.parts.Accelerator.{Accelerator}
@@ -10,9 +10,11 @@ use Rattle.plan.specs.declared.plan.contents.Contents.{Contents}
 use Rattle.plan.specs.declared.faults.Fault.{Fault}
 use Rattle.plan.specs.declared.faults.Fault.TheVariants.{Length, Rest}
 use Rattle.plan.specs.Rules.{Layout, AcceleratorKept, idle}
-use Rattle.plan.specs.Reading.{ContentsKept, contents_at, Left, less, partition_at, accelerator_at, on_line, partitions_at, accelerators_at, finished, after_contents, reading}
+use Rattle.plan.specs.Reading.{ContentsKept, contents_at, less, partition_at, accelerator_at, on_line, items_at, partitions_at, accelerators_at, finished, after_contents, reading}
+use Rattle.plan.specs.declared.plan.left.Left.{Left}
+use Rattle.plan.specs.declared.plan.owners.Owners.{Owners}
 use Rattle.plan.specs.Texts.{Line, PartitionLine, AcceleratorLine, Says}
-use Rattle.plan.proofs.Items.{ok_below}
+use Rattle.plan.proofs.Items.{ok_below, items_alone}
 use Rattle.plan.proofs.Lines.{PartitionFits, contents_written, contents_was, partition_written, partition_was, accelerator_written, accelerator_was}
 use Rattle.plan.proofs.Written.{items_written, items_were, alone_from, alone_each, partitions_from, partitions_kept}
 
@@ -89,13 +91,37 @@ module _ (t : List ℕ) where
   pub contents_kept : (c : Contents) (n : ℕ) → on_line 1 (contents_at t 0) ≡ Ok (c, n) → ContentsKept c
   contents_kept c n e = (contents_was t 0 c n (sym (ok_below 1 (contents_at t 0) (c, n) (sym e)))).fits
 
-  -- the parts of a text that is read make the whole
-  pub read_whole : (c : Contents) (n₁ : ℕ) (table : List Partition) (n₂ : ℕ) (as' : List Accelerator) (n₃ j : ℕ) → length t ≤ 8192 → on_line 1 (contents_at t 0) ≡ Ok (c, n₁) → partitions_at t c n₁ ≡ Ok (take c.partitions table, n₂) → j ≡ c.partitions → accelerators_at t c (take j table) n₂ ≡ Ok (as', n₃) → n₃ ≡ length t → Ok (record { fabric = c.fabric; tasks = c.tasks; partitions = take c.partitions table; accelerators = as' }) ≡ reading t
-  read_whole c n₁ table n₂ as' n₃ j short first middle all last end =
-      let ps = take c.partitions table in
-      sym
-      (cond-false _ _ _ (le-ltb 8192 (length t) short)
-      ∙ ap (λ r. and_then r (after_contents t)) first
-      ∙ ap (λ r. and_then r (λ y. and_then (accelerators_at t c y.0 y.1) (finished t c y.0))) middle
-      ∙ ap (λ r. and_then r (finished t c ps)) (ap (λ i. accelerators_at t c (take i table) n₂) (sym all) ∙ last)
-      ∙ cond-true _ _ _ (eq-eqb n₃ (length t) end))
+  -- the parts of a text, one after the other, as they are read
+  module _ (short : length t ≤ 8192) (c : Contents) (n₁ : ℕ) (first : Ok (c, n₁) ≡ on_line 1 (contents_at t 0)) (ps : List Partition) (n₂ : ℕ) (middle : Ok (ps, n₂) ≡ items_at (partition_at t) less (c.partitions + 2 - 2) 2 (record { blocks = c.fabric; slots = 32 }) n₁) where
+    those : partitions_at t c n₁ ≡ Ok (ps, n₂)
+    those =
+        let count : c.partitions + 2 - 2 ≡ c.partitions = omega arith in
+        sym (middle ∙ ap (λ j. items_at (partition_at t) less j 2 (record { blocks = c.fabric; slots = 32 }) n₁) count)
+
+    pub parts_some : ((1 ≤ length ps) × (1 ≤ c.tasks)) × (length ps ≤ 8)
+    parts_some =
+        let k = contents_kept c n₁ (sym first) in
+        let long = (items_were t (partition_at t) less PartitionLine PartitionFits (partition_was t) c.partitions 2 (record { blocks = c.fabric; slots = 32 }) n₁ ps n₂ those).size in
+        ((omega (arith, k.1.0), k.3.0), omega (arith, k.1.1))
+
+    module _ (o : Owners) (owned : o.partitions.now ≡ ps) (busy : o.tasks ≡ c.tasks) (r : Result (List Accelerator × ℕ) Fault) (last : r ≡ items_at (λ (o : Owners) n. accelerator_at t o.partitions.now o.tasks n) (λ o a. o) (c.partitions + c.accelerators + 2 - (c.partitions + 2)) (c.partitions + 2) o n₂) where
+      pub read_after : and_then r (finished t c ps) ≡ reading t
+      read_after =
+          let count : c.partitions + c.accelerators + 2 - (c.partitions + 2) ≡ c.accelerators = omega arith in
+          let rest : r ≡ accelerators_at t c ps n₂ =
+          last
+          ∙ ap (λ j. items_at (λ (o : Owners) n. accelerator_at t o.partitions.now o.tasks n) (λ o a. o) j (c.partitions + 2) o n₂) count
+          ∙ items_alone (λ (o : Owners) n. accelerator_at t o.partitions.now o.tasks n) o c.accelerators (c.partitions + 2) n₂
+          ∙ ap (λ qs. items_at (λ (u : Unit {0}) n. accelerator_at t qs o.tasks n) (λ u a. u) c.accelerators (c.partitions + 2) tt n₂) owned
+          ∙ ap (λ k. items_at (λ (u : Unit {0}) n. accelerator_at t ps k n) (λ u a. u) c.accelerators (c.partitions + 2) tt n₂) busy in
+          sym
+          (cond-false _ _ _ (le-ltb 8192 (length t) short)
+          ∙ ap (λ r. and_then r (after_contents t)) (sym first)
+          ∙ ap (λ r. and_then r (λ y. and_then (accelerators_at t c y.0 y.1) (finished t c y.0))) those
+          ∙ ap (λ r. and_then r (finished t c ps)) (sym rest))
+
+  pub whole : (c : Contents) (ps : List Partition) (as' : List Accelerator) (n : ℕ) → n ≡ length t → Ok (record { fabric = c.fabric; tasks = c.tasks; partitions = ps; accelerators = as' }) ≡ finished t c ps (as', n)
+  whole c ps as' n end = sym (cond-true _ _ _ (eq-eqb n (length t) end))
+
+  pub more : (c : Contents) (ps : List Partition) (as' : List Accelerator) (n : ℕ) → (n ≡ length t → ⊥) → Err (Rest (c.partitions + c.accelerators + 2)) ≡ finished t c ps (as', n)
+  more c ps as' n end = sym (cond-false _ _ _ (ne_eqb n (length t) end))

@@ -16,7 +16,8 @@ use Rattle.plan.specs.declared.faults.Rule.TheVariants.{PartitionBlocks, FabricB
 use Rattle.plan.specs.declared.plan.contents.Contents.{Contents}
 use Rattle.plan.specs.Kinds.{letter_of}
 use Rattle.plan.specs.Rules.{PartitionKept, AcceleratorKept, none}
-use Rattle.plan.specs.Reading.{numbers_at, formed, bounded, ContentsKept, contents_from, contents_at, partition_from, Left, allowed, partition_at, accelerator_from, fitted, accelerator_at}
+use Rattle.plan.specs.Reading.{numbers_at, formed, bounded, ContentsKept, contents_from, contents_at, partition_from, allowed, partition_at, accelerator_from, fitted, accelerator_at}
+use Rattle.plan.specs.declared.plan.left.Left.{Left}
 use Rattle.plan.specs.Texts.{Line, PartitionLine, AcceleratorLine}
 
 and_then_is : {A B E : Type 0} (r : Result A E) (f : A → Result B E) (x : A) → r ≡ Ok x → and_then r f ≡ f x

@@ -6,7 +6,8 @@ use Rattle.text.proofs.Written.{and_then_ok, onto_ok}
 use Rattle.plan.specs.declared.parts.Partition.{Partition}
 use Rattle.plan.specs.declared.faults.Flaw.{Flaw}
 use Rattle.plan.specs.Rules.{PartitionKept, none, blocks_in, slots_in}
-use Rattle.plan.specs.Reading.{Left, less, on_line, items_at}
+use Rattle.plan.specs.Reading.{less, on_line, items_at}
+use Rattle.plan.specs.declared.plan.left.Left.{Left}
 use Rattle.plan.specs.Texts.{Lines}
 use Rattle.plan.proofs.Items.{ok_below}
 use Rattle.plan.proofs.Lines.{One, PartitionFits}

@@ -1,5 +1,5 @@
 -- What each fault tells: its number, its layer, its line and its field.
-use Rattle.std.specs.Prelude.{ℕ}
+use Rattle.std.specs.Prelude.{ℕ, List, codes}
 use Rattle.plan.specs.declared.faults.Rule.{Rule}
 use Rattle.plan.specs.declared.faults.Rule.TheVariants.{PartitionBlocks, FabricBlocks, SlotCount, SlotSize}
 use Rattle.plan.specs.declared.faults.Flaw.{Flaw}
@@ -34,6 +34,13 @@ abbrev pub fault_layer : Fault → Layer
 fault_layer Length = layer.Text
 fault_layer (Line line flaw) = flaw_layer flaw
 fault_layer (Rest line) = layer.Text
+
+-- how a layer is printed
+abbrev pub layer_name : Layer → List ℕ
+layer_name layer.Text = codes "text"
+layer_name layer.Line = codes "line"
+layer_name layer.Field = codes "field"
+layer_name layer.Rule = codes "rule"
 
 -- lines count from 1; a text that is too long has none
 abbrev pub fault_line : Fault → ℕ

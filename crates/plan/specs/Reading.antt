@@ -1,5 +1,5 @@
 -- What a plan's text says, read line by line, and the first fault where it says nothing.
-use Rattle.std.specs.Prelude.{ℕ, zero, suc, ◌+◌, ◌-◌, ◌*◌, ◌<◌, ◌≤◌, cond, List, [], ◌∷◌, length, take, Ok, Err, Result, ◌==◌, nat_lt, slice_index, slice_index_or}
+use Rattle.std.specs.Prelude.{ℕ, zero, suc, ◌+◌, ◌-◌, ◌*◌, ◌<◌, ◌≤◌, cond, List, [], ◌∷◌, length, Ok, Err, Result, ◌==◌, nat_lt, slice_index, slice_index_or}
 use Rattle.text.specs.declared.numbers.Malformed.{Malformed}
 use Rattle.text.specs.Results.{and_then, onto}
 use Rattle.text.specs.Numbers.{malformed}
@@ -13,9 +13,11 @@ use Rattle.plan.specs.declared.faults.Flaw.TheVariants.{Form, Range, Broken}
 use Rattle.plan.specs.declared.faults.Rule.TheVariants.{PartitionBlocks, FabricBlocks, SlotCount, SlotSize}
 use Rattle.plan.specs.declared.faults.Fault.{Fault}
 use Rattle.plan.specs.declared.faults.Fault.TheVariants.{Length, Line, Rest}
+use Rattle.arrayvec.specs.ArrayVec.{ArrayVec}
 use Rattle.plan.specs.declared.plan.contents.Contents.{Contents}
+use Rattle.plan.specs.declared.plan.left.Left.{Left}
 use Rattle.plan.specs.Kinds.{letter_of}
-use Rattle.plan.specs.Rules.{Layout, Amount, none, laid}
+use Rattle.plan.specs.Rules.{Layout, Amount, none}
 
 -- the numbers of the line at place n, which is to be of a kind and to have so many, of at most 7 digits each
 abbrev pub numbers_at : List ℕ → Kind → ℕ → ℕ → Result (List ℕ × ℕ) Malformed
@@ -59,11 +61,6 @@ partition_from xs =
     and_then (bounded (slice_index xs 1) 1 8 2) (λ slots.
     and_then (bounded (slice_index xs 2) 1 1000000 3) (λ size.
     Ok (record { blocks = blocks; slots = slots; size = size }))))
-
--- blocks and slots that the partitions so far have left
-pub record Left : Type 0 where
-  pub blocks : ℕ
-  pub slots : ℕ
 
 abbrev pub allowed : Left → Partition → Result Partition Flaw
 allowed left p =
@@ -135,12 +132,7 @@ after_contents t x =
 abbrev pub reading : List ℕ → Result Layout Fault
 reading t = cond (nat_lt 8192 (length t)) (Err Length) (and_then (on_line 1 (contents_at t 0)) (after_contents t))
 
--- the front of a table that is read, and the place after it
-abbrev pub fronted : {A : Type 0} → ℕ → Result (List A × ℕ) Fault → Result (List A × ℕ) Fault
-fronted n (Ok x) = Ok (take n x.0, x.1)
-fronted n (Err e) = Err e
-
--- the layout that contents and the fronts of two tables make
-abbrev pub sectioned : Result (Contents × List Partition × List Accelerator) Fault → Result Layout Fault
-sectioned (Ok x) = Ok (laid x.0.fabric x.0.tasks x.0.partitions x.0.accelerators x.1 x.2)
-sectioned (Err e) = Err e
+-- the items of a vector that is read, and the place after them
+abbrev pub itemized : {A : Type 0} → Result (ArrayVec A × ℕ) Fault → Result (List A × ℕ) Fault
+itemized (Ok x) = Ok (x.0.items, x.1)
+itemized (Err e) = Err e

@@ -1,9 +1,9 @@
 -- What a plan says, and the rules that it keeps.
-use Rattle.std.specs.Prelude.{◌≡◌, ℕ, ◌*◌, ◌<◌, ◌≤◌, List, length, get_or, take, sum_by, slice_index_or}
+use Rattle.std.specs.Prelude.{◌≡◌, ℕ, ◌*◌, ◌<◌, ◌≤◌, List, length, get_or, sum_by, slice_index_or}
 use Rattle.plan.specs.declared.parts.Partition.{Partition}
 use Rattle.plan.specs.declared.parts.Accelerator.{Accelerator}
 
--- what a plan says, without its tables' unused places
+-- what a plan says
 pub record Layout : Type 0 where
   pub fabric : ℕ
   pub tasks : ℕ
@@ -14,7 +14,7 @@ pub record Layout : Type 0 where
 abbrev pub Amount : ℕ → Type 0
 Amount n = (1 ≤ n) × (n ≤ 1000000)
 
--- what an unused place of a table holds
+-- what stands for a partition or an accelerator that a plan does not have
 abbrev pub none : Partition
 none = record { blocks = 0; slots = 0; size = 0 }
 
@@ -81,7 +81,3 @@ pub record Rules (l : Layout) : Type 0 where
   pub accelerators : AcceleratorsKept l
   pub blocks : BlocksKept l
   pub slots : SlotsKept l
-
--- what the fronts of two tables say
-abbrev pub laid : ℕ → ℕ → ℕ → ℕ → List Partition → List Accelerator → Layout
-laid fabric tasks n m ps as' = record { fabric = fabric; tasks = tasks; partitions = take n ps; accelerators = take m as' }

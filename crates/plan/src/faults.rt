@@ -1,9 +1,10 @@
 //! What is wrong with a plan's text.
 
-ghost use Rattle.std.specs.Prelude.{◌≡◌};
+ghost use Rattle.std.specs.Prelude.{◌≡◌, Some};
 ghost use Rattle.plan.specs.declared.faults.Flaw.TheVariants.{Form};
-ghost use Rattle.plan.specs.Faults.{fault_number, fault_layer, fault_line, fault_field};
+ghost use Rattle.plan.specs.Faults.{fault_number, fault_layer, fault_line, fault_field, layer_name};
 
+use std::fmt;
 use text::numbers::Malformed;
 
 /// A rule that a line breaks.
@@ -44,6 +45,19 @@ pub enum Layer {
     Rule,
 }
 
+impl fmt::Display for Layer {
+    ghost output = { λ layer. Some (layer_name layer) };
+
+    fn fmt<W: fmt::Write>(&self, f: &mut fmt::Formatter<W>) -> fmt::Result {
+        f.write_str(match self {
+            Layer::Text => "text",
+            Layer::Line => "line",
+            Layer::Field => "field",
+            Layer::Rule => "rule",
+        })
+    }
+}
+
 impl From<Malformed> for Flaw {
     ghost from_gives = { λ _ flaw. flaw ≡ Form };
 
@@ -80,6 +94,7 @@ impl Fault {
         }
     }
 
+    // A 0 and no `None` here and in `field`: the answer is printed, and a line or field that is not there is printed as 0.
     /// The line, from 1; 0 for a text that is too long, and one past the last for bytes after it.
     pub fn line(&self) -> u32
         ensures { result ≡ fault_line self.now }

@@ -1,7 +1,7 @@
 //! What a plan is made of.
 
 /// A part of the fabric: `slots` slots of `size` blocks each, out of `blocks` blocks.
-#[derive(Clone, Copy)]
+#[derive(Clone, Copy, Default)]
 pub struct Partition {
     pub blocks: u32,
     pub slots: u32,
@@ -9,7 +9,7 @@ pub struct Partition {
 }
 
 /// An accelerator: the partition it is loaded into, the task that owns it, the blocks it needs and its run ticks.
-#[derive(Clone, Copy)]
+#[derive(Clone, Copy, Default)]
 pub struct Accelerator {
     pub partition: u32,
     pub owner: u32,

@@ -2,7 +2,6 @@
 
 #![tactic(auto)]
 
-use plan::faults::{Fault, Layer};
 use plan::plan::Plan;
 use plan::plan::read::read;
 use std::alloc::{AllocError, Global};
@@ -117,19 +116,8 @@ const CASES: [(&str, &[u8]); 46] = [
 /// A good text with spaces after it, `size` bytes in all.
 fn padded(heap: Global, size: usize) -> Result<Vec<u8>, AllocError> {
     let mut text = Vec::from_slice(heap, b"c 40 1 1 1\np 40 2 20\na 0 0 20 1\n")?;
-    for _ in text.len()..size {
-        text.push(b' ')?;
-    }
+    text.resize(size, b' ')?;
     Ok(text)
-}
-
-fn layer_name(fault: &Fault) -> &'static str {
-    match fault.layer() {
-        Layer::Text => "text",
-        Layer::Line => "line",
-        Layer::Field => "field",
-        Layer::Rule => "rule",
-    }
 }
 
 fn tell(rt: &HostRuntime, name: &str, text: &[u8]) -> io::Result<()> {
@@ -141,7 +129,7 @@ fn tell(rt: &HostRuntime, name: &str, text: &[u8]) -> io::Result<()> {
         }
         Err(fault) => {
             let number = fault.number();
-            let layer = layer_name(&fault);
+            let layer = fault.layer();
             let line = fault.line();
             let field = fault.field();
             println!(rt; "{name}: {number} {layer} {line} {field}")

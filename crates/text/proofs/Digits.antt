@@ -1,99 +1,113 @@
--- A number, read byte by byte.
-use Rattle.std.proofs.Common.{◌≡◌, ℕ, zero, suc, ◌+◌, ◌-◌, ◌*◌, ◌^◌, ◌<◌, ◌≤◌, true, false, ◌⊎◌, List, ◌∷◌, length, get_or, drop, Ok, Err, sym, refl, ap, ◌∙◌, subst, ⊎_elim, pow-suc, arith}
+-- A number is the run of digits at the front of the bytes.
+use Rattle.std.proofs.Common.{Bor, Some, Option, drop, ◌≡◌, ℕ, zero, suc, ◌+◌, ◌-◌, ◌*◌, ◌^◌, ◌<◌, ◌≤◌, true, false, List, [], ◌∷◌, length, get_or, take, Ok, Err, sym, refl, ap, ◌∙◌, ⊎_elim, arith}
 use Rattle.std.specs.Char.{is_ascii_digit}
-use Rattle.std.proofs.lemmas.List.{drop_more, drop_all}
-use Rattle.std.proofs.lemmas.Bool.{cond-true, cond-false, cases_order}
-use Rattle.text.specs.Numbers.{malformed, digits, numeral}
+use Rattle.std.specs.List.{prefix_len, take_while}
+use Rattle.std.specs.Slice.{IsGetRangeResult}
+use Rattle.std.proofs.lemmas.Option.{MatchOption-at_some}
+use Rattle.std.proofs.lemmas.Slice.{between_to_end}
+use Rattle.std.proofs.lemmas.Bool.{cond-true, cond-false, cases_Bool}
+use Rattle.std.proofs.lemmas.List.Folds.{length-prefix_len}
+use Rattle.std.proofs.lemmas.List.{get_or-take, length-take}
+use Rattle.std.proofs.lemmas.List.Sums.{prefix_len_passes, fold_more}
+use Rattle.std.proofs.lemmas.Grind.{pow_more}
+use Rattle.std.proofs.Math.Nat.{pow-le-pow_right}
+use Rattle.text.specs.declared.numbers.Digits.{Digits}
+use Rattle.text.specs.declared.numbers.Digits.TheVariants.{Seven, Ten}
+use Rattle.text.specs.Forms.{Digit, written}
+use Rattle.text.specs.Numbers.{malformed, most, digits, numeral}
+use Rattle.text.proofs.Written.{digit_from}
 
-digits_other : (v k n b : ℕ) (bs : List ℕ) → is_ascii_digit b ≡ false → digits v k n (b ∷ bs) ≡ Ok (v, n)
-digits_other v zero n b bs e = cond-false _ _ _ e
-digits_other v (suc k) n b bs e = cond-false _ _ _ e
+-- how many digits stand at the front
+abbrev pub run : List ℕ → ℕ
+run bs = prefix_len is_ascii_digit bs
 
--- no digit stands at n
-abbrev pub Stop : List ℕ → ℕ → Type 0
-Stop t n = (length t ≤ n) ⊎ ((n < length t) × (is_ascii_digit (get_or t n 0) ≡ false))
+-- the bytes from a place on, where a slice has them
+pub rest_is : (t : List ℕ) (n : ℕ) (r : Bor (List ℕ)) (o : Option (Bor (List ℕ))) → o ≡ Some r → IsGetRangeResult t n (length t) o → r.now ≡ drop n t
+rest_is t n r o e is = (MatchOption-at_some _ _ r e is.0).2 ∙ between_to_end t n (length t) (omega arith)
 
-digits_stop : (t : List ℕ) (n v k : ℕ) → Stop t n → digits v k n (drop n t) ≡ Ok (v, n)
-digits_stop t n v k stop =
+pub run_length : (bs : List ℕ) → length (take_while is_ascii_digit bs) ≡ run bs
+run_length bs = length-prefix_len is_ascii_digit bs
+
+module _ (b : ℕ) (bs : List ℕ) where
+  run_more : is_ascii_digit b ≡ true → run (b ∷ bs) ≡ suc (run bs)
+  run_more e = cond-true _ _ _ e ∙ omega arith
+
+  run_none : is_ascii_digit b ≡ false → run (b ∷ bs) ≡ 0
+  run_none e = cond-false _ _ _ e
+
+digits_run : (bs : List ℕ) (v k n : ℕ) → run bs ≤ k → digits v k n bs ≡ Ok (written v (take (run bs) bs), n + run bs)
+digits_run [] v k n h = ap (λ m. Ok (v, m)) (let same : n ≡ n + 0 = omega arith in same)
+digits_run (b ∷ bs) v zero n h =
     ⊎_elim
-    (λ past. rw (drop_all n t past))
-    (λ here. let in' = here.0 in rw (drop_more t n 0 in') (digits_other v k n (get_or t n 0) (drop (n + 1) t) here.1))
-    stop
-
-numeral_stop : (t : List ℕ) (n k : ℕ) → Stop t n → numeral k n (drop n t) ≡ Err malformed
-numeral_stop t n k stop =
+    (λ yes'. absurd (omega (arith, run_more b bs yes')))
+    (λ no'. rw (run_none b bs no') (cond-false _ _ _ no' ∙ ap (λ m. Ok (v, m)) (let same : n ≡ n + 0 = omega arith in same)))
+    (cases_Bool (is_ascii_digit b))
+digits_run (b ∷ bs) v (suc k) n h =
     ⊎_elim
-    (λ past. rw (drop_all n t past))
-    (λ here. let in' = here.0 in rw (drop_more t n 0 in') (cond-false _ _ _ here.1))
-    stop
+    (λ yes'.
+    let more = run_more b bs yes' in
+    let few : run bs ≤ k = omega arith in
+    let place : n + 1 + run bs ≡ n + suc (run bs) = omega arith in
+    rw more (cond-true _ _ _ yes' ∙ digits_run bs (v * 10 + (b - 48)) k (n + 1) few ∙ ap (λ m. Ok (written (v * 10 + (b - 48)) (take (run bs) bs), m)) place))
+    (λ no'. rw (run_none b bs no') (cond-false _ _ _ no' ∙ ap (λ m. Ok (v, m)) (let same : n ≡ n + 0 = omega arith in same)))
+    (cases_Bool (is_ascii_digit b))
 
--- the number from place a on, read up to place n: its value so far is v
-pub record Reading (t : List ℕ) (a d n v : ℕ) : Type 0 where
-  pub from : a ≤ n
-  pub within : a < n → n ≤ length t
-  pub few : n - a ≤ d
-  pub small : v < 10 ^ (n - a)
-  pub first : n ≡ a → v ≡ 0
-  pub rest : a < n → numeral d a (drop a t) ≡ digits v (d - (n - a)) n (drop n t)
+digits_over : (bs : List ℕ) (v k n : ℕ) → k < run bs → digits v k n bs ≡ Err malformed
+digits_over [] v k n h = absurd (omega arith)
+digits_over (b ∷ bs) v zero n h =
+    ⊎_elim
+    (λ yes'. cond-true _ _ _ yes')
+    (λ no'. absurd (omega (arith, run_none b bs no')))
+    (cases_Bool (is_ascii_digit b))
+digits_over (b ∷ bs) v (suc k) n h =
+    ⊎_elim
+    (λ yes'. cond-true _ _ _ yes' ∙ digits_over bs (v * 10 + (b - 48)) k (n + 1) (omega (arith, run_more b bs yes')))
+    (λ no'. absurd (omega (arith, run_none b bs no')))
+    (cases_Bool (is_ascii_digit b))
 
-module _ (t : List ℕ) (a d n v : ℕ) (so : Reading t a d n v) where
-  -- at a digit
-  module _ (in' : n < length t) (e : is_ascii_digit (get_or t n 0) ≡ true) where
-    byte : drop n t ≡ get_or t n 0 ∷ drop (n + 1) t
-    byte = drop_more t n 0 in'
+-- where a digit stands at the front, all of them are the number
+numeral_some : (k n : ℕ) (bs : List ℕ) → 0 < run bs → numeral k n bs ≡ digits 0 k n bs
+numeral_some k n [] h = absurd (omega arith)
+numeral_some k n (b ∷ bs) h =
+    ⊎_elim
+    (λ yes'. cond-true _ _ _ yes')
+    (λ no'. absurd (omega (arith, run_none b bs no')))
+    (cases_Bool (is_ascii_digit b))
 
-    numeral_some : numeral d n (drop n t) ≡ digits 0 d n (drop n t)
-    numeral_some = rw byte (cond-true _ _ _ e)
+pub numeral_run : (k n : ℕ) (bs : List ℕ) → 0 < run bs → run bs ≤ k → Ok (written 0 (take (run bs) bs), n + run bs) ≡ numeral k n bs
+numeral_run k n bs some few = sym (numeral_some k n bs some ∙ digits_run bs 0 k n few)
 
-    digits_more : (k j : ℕ) → j ≡ suc k → digits v j n (drop n t) ≡ digits (v * 10 + (get_or t n 0 - 48)) k (n + 1) (drop (n + 1) t)
-    digits_more k j s = rw (s, byte) (cond-true _ _ _ e)
+pub numeral_over : (k n : ℕ) (bs : List ℕ) → 0 < run bs → k < run bs → Err malformed ≡ numeral k n bs
+numeral_over k n bs some over = sym (numeral_some k n bs some ∙ digits_over bs 0 k n over)
 
-    digits_full : (k : ℕ) → k ≡ 0 → digits v k n (drop n t) ≡ Err malformed
-    digits_full k s = rw (s, byte) (cond-true _ _ _ e)
+pub numeral_none : (k n : ℕ) (bs : List ℕ) → run bs ≡ 0 → Err malformed ≡ numeral k n bs
+numeral_none k n [] h = refl
+numeral_none k n (b ∷ bs) h =
+    ⊎_elim
+    (λ yes'. absurd (omega (arith, run_more b bs yes')))
+    (λ no'. sym (cond-false _ _ _ no'))
+    (cases_Bool (is_ascii_digit b))
 
-    at_digit : numeral d a (drop a t) ≡ digits v (d - (n - a)) n (drop n t)
-    at_digit =
-        ⊎_elim
-        (λ same.
-        let none : v ≡ 0 = so.first same in
-        let all : d - (n - a) ≡ d = omega arith in
-        rw (none, all, ← same) numeral_some)
-        (λ other. so.rest (⊎_elim (λ less. absurd (omega (arith, so.from))) (λ more. more) other))
-        (cases_order n a)
+most_few : (d : Digits) → most d ≤ 10
+most_few Seven = omega arith
+most_few Ten = omega arith
 
-    pub too_long : n - a ≡ d → Err malformed ≡ numeral d a (drop a t)
-    too_long h = sym (at_digit ∙ digits_full _ (omega arith))
+-- the first i of the n digits at the front of bs make v
+module _ (bs : List ℕ) (n : ℕ) (all : n ≡ length (take_while is_ascii_digit bs)) (i : ℕ) (h : i < length (take n bs)) where
+  pub next_digit : Digit (get_or (take n bs) i 0)
+  next_digit =
+      let short : i < run bs = omega (arith, run_length bs, length-take n bs) in
+      let here : i < n = omega (arith, length-take n bs) in
+      digit_from (get_or (take n bs) i 0) (ap is_ascii_digit (get_or-take n bs i 0 here) ∙ prefix_len_passes is_ascii_digit bs i 0 short)
 
-    pub one_more : (n - a ≡ d → ⊥) → (b : ℕ) → b ≡ get_or t n 0 - 48 → b < 10 → Reading t a d (n + 1) (v * 10 + b)
-    one_more h b is low =
-        let few = so.few in
-        let from = so.from in
-        let up : n + 1 - a ≡ suc (n - a) = omega arith in
-        record {
-          from = omega arith;
-          within = λ _. omega arith;
-          few = omega arith;
-          small = rw (up, pow-suc 10 (n - a)) (omega (arith, so.small));
-          first = λ same. absurd (omega arith);
-          rest = λ more. at_digit ∙ digits_more (d - (n + 1 - a)) _ (omega arith) ∙ ap (λ x. digits (v * 10 + x) (d - (n + 1 - a)) (n + 1) (drop (n + 1) t)) (sym is);
-        }
+  module _ (v : ℕ) (so : v < 10 ^ i) where
+    pub room : (d : Digits) → n ≤ most d → v < 1000000000
+    room d few =
+        let small : i ≤ 9 = omega (arith, length-take n bs, most_few d) in
+        let most : 10 ^ i ≤ 10 ^ 9 = pow-le-pow_right {n = 10} (omega arith) {i = i} {j = 9} small in
+        omega (arith, most)
 
-  -- past the digits
-  module _ (stop : Stop t n) where
-    pub no_digit : n ≡ a → Err malformed ≡ numeral d a (drop a t)
-    no_digit same = subst (λ x. Err malformed ≡ numeral d x (drop x t)) same (sym (numeral_stop t n d stop))
-
-    pub done : (n ≡ a → ⊥) → Ok (v, n) ≡ numeral d a (drop a t)
-    done h = sym (so.rest (omega (arith, so.from)) ∙ digits_stop t n v _ stop)
-
-pub begun : (t : List ℕ) (a d : ℕ) → Reading t a d a 0
-begun t a d =
-    let none : a - a ≡ 0 = omega arith in
-    record {
-      from = omega arith;
-      within = λ more. absurd (omega arith);
-      few = omega arith;
-      small = rw none (omega arith);
-      first = λ _. refl;
-      rest = λ more. absurd (omega arith);
-    }
+    pub one_more : (b : ℕ) → b ≡ get_or (take n bs) i 0 - 48 → v ≡ written 0 (take i (take n bs)) → (v * 10 + b ≡ written 0 (take (i + 1) (take n bs))) × (v * 10 + b < 10 ^ (i + 1))
+    one_more b is made =
+        let e = fold_more (λ a b. a * 10 + (b - 48)) 0 (take n bs) i 0 h in
+        rw is (ap (λ v. v * 10 + (get_or (take n bs) i 0 - 48)) made ∙ sym e, rw (pow_more 10 i) (omega (arith, next_digit.0, next_digit.1)))

@@ -31,7 +31,7 @@ taken_in b e r x h = ⊎_elim (λ y. (y, sym (cond-true _ _ _ y) ∙ h)) (λ n. 
 digit_true : (b : ℕ) → Digit b → is_ascii_digit b ≡ true
 digit_true b h = and_from _ _ (le-leb 48 b h.0) (le-leb b 57 h.1)
 
-digit_from : (b : ℕ) → is_ascii_digit b ≡ true → Digit b
+pub digit_from : (b : ℕ) → is_ascii_digit b ≡ true → Digit b
 digit_from b e = let p = and_parts _ _ e in (leb-true 48 b p.0, leb-true b 57 p.1)
 
 -- what follows a number: no digit

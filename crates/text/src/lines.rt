@@ -11,10 +11,8 @@ pub fn letter(text: &[u8], at: usize) -> Result<char, Malformed>
     ensures is { result ≡ letter_at text.now at }
     ensures inside { OnOk result (at < length text.now) }
 {
-    if at >= text.len() {
-        return Err(Malformed);
-    }
-    Ok(char::from(text[at]))
+    let byte = text.get(at).ok_or(Malformed)?;
+    Ok(char::from(*byte))
 }
 
 /// One space and a number.
@@ -40,9 +38,9 @@ pub fn line<const N: usize>(
     let kind = letter(text, at)?;
     let mut numbers = [0; N];
     let mut next = at + 1;
-    for i in 0..N {
+    for number in &mut numbers {
         let (value, after) = field(text, next, digits)?;
-        numbers[i] = value;
+        *number = value;
         next = after;
     }
     if letter(text, next)? != '\n' {

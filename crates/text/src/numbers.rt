@@ -1,6 +1,7 @@
 //! Numbers in a text.
 
-ghost use Rattle.std.specs.Prelude.{◌≡◌, ◌<◌, ◌≤◌, length, drop, IfOk};
+ghost use Rattle.std.specs.Prelude.{◌≡◌, ◌<◌, ◌≤◌, length, take_while, drop, IfOk};
+ghost use Rattle.std.specs.Char.{is_ascii_digit};
 ghost use Rattle.text.specs.Numbers.{most, numeral};
 
 /// What stands at a place is not of the form that it should have.
@@ -25,22 +26,26 @@ impl Digits {
     }
 }
 
+/// How many digits stand at the front.
+fn digits_in_front(text: &[u8]) -> usize
+    ensures { result ≡ length (take_while is_ascii_digit text.now) }
+{
+    text.iter().take_while(|byte| byte.is_ascii_digit()).count()
+}
+
 /// The number at `at`, of one digit at least, and the place after it.
 pub fn number(text: &[u8], at: usize, digits: Digits) -> Result<(u64, usize), Malformed>
     ensures is { result ≡ numeral (most digits) at (drop at text.now) }
     ensures inside { IfOk result (λ x. (at < x.1) × (x.1 ≤ length text.now)) }
 {
-    let mut value = 0;
-    let mut next = at;
-    while next < text.len() && text[next].is_ascii_digit() {
-        if next - at == digits.most() {
-            return Err(Malformed);
-        }
-        value = value * 10 + u64::from(text[next] - b'0');
-        next += 1;
-    }
-    if next == at {
+    let rest = text.get(at..).ok_or(Malformed)?;
+    let count = digits_in_front(rest);
+    if count == 0 || count > digits.most() {
         return Err(Malformed);
     }
-    Ok((value, next))
+    let mut value = 0;
+    for digit in &rest[..count] {
+        value = value * 10 + u64::from(digit - b'0');
+    }
+    Ok((value, at + count))
 }

@@ -7,6 +7,7 @@ ghost use Rattle.plan.specs.Slots.{Found, slot_count};
 
 use crate::parts::{Accelerator, Partition};
 use crate::plan::Plan;
+use arrayvec::ArrayVec;
 
 impl Plan {
     /// The built-in plan that has nothing.
@@ -16,19 +17,8 @@ impl Plan {
         Plan {
             fabric: 0,
             tasks: 0,
-            partition_count: 0,
-            accelerator_count: 0,
-            partitions: [Partition {
-                blocks: 0,
-                slots: 0,
-                size: 0,
-            }; 8],
-            accelerators: [Accelerator {
-                partition: 0,
-                owner: 0,
-                need: 0,
-                run: 0,
-            }; 32],
+            partitions: ArrayVec::new(),
+            accelerators: ArrayVec::new(),
         }
     }
 
@@ -51,14 +41,14 @@ impl Plan {
         ensures is { result ≡ length (layout self.now).partitions }
         ensures few { result ≤ 8 }
     {
-        self.partition_count
+        self.partitions.len()
     }
 
     pub fn accelerator_count(&self) -> usize
         ensures is { result ≡ length (layout self.now).accelerators }
         ensures few { result ≤ 32 }
     {
-        self.accelerator_count
+        self.accelerators.len()
     }
 
     /// Partition `k`, or one of zeros where the plan has none of that number.
@@ -66,15 +56,7 @@ impl Plan {
         ensures is { result ≡ slice_index_or (layout self.now).partitions k none }
         ensures few { (result.slots ≤ 8) × (result.size ≤ 1000000) }
     {
-        if k < self.partition_count {
-            self.partitions[k]
-        } else {
-            Partition {
-                blocks: 0,
-                slots: 0,
-                size: 0,
-            }
-        }
+        self.partitions.get(k).copied().unwrap_or_default()
     }
 
     /// Accelerator `a`, or one of zeros where the plan has none of that number.
@@ -82,30 +64,21 @@ impl Plan {
         ensures is { result ≡ slice_index_or (layout self.now).accelerators a idle }
         ensures few { result.run ≤ 1000000 }
     {
-        if a < self.accelerator_count {
-            self.accelerators[a]
-        } else {
-            Accelerator {
-                partition: 0,
-                owner: 0,
-                need: 0,
-                run: 0,
-            }
-        }
+        self.accelerators.get(a).copied().unwrap_or_default()
     }
 
     /// All partitions, in order.
     pub fn partitions(&self) -> &[Partition]
         ensures { result.now ≡ (layout self.now).partitions }
     {
-        &self.partitions[0..self.partition_count]
+        &self.partitions
     }
 
     /// All accelerators, in order.
     pub fn accelerators(&self) -> &[Accelerator]
         ensures { result.now ≡ (layout self.now).accelerators }
     {
-        &self.accelerators[0..self.accelerator_count]
+        &self.accelerators
     }
 
     /// How many slots the partitions have together.
@@ -113,24 +86,22 @@ impl Plan {
         ensures is { result ≡ slot_count (layout self.now) }
         ensures few { result ≤ 32 }
     {
-        let mut count = 0;
-        for k in 0..self.partition_count {
-            count += self.partitions[k].slots;
-        }
-        count
+        self.partitions
+            .iter()
+            .map(|partition| partition.slots)
+            .sum()
     }
 
     /// The partition that a slot is in. Slots are numbered through the partitions in order.
     pub fn partition_of(&self, slot: u32) -> Option<usize>
         ensures { Found (layout self.now) slot result }
     {
-        let mut first = 0;
-        for k in 0..self.partition_count {
-            let after = first + self.partitions[k].slots;
+        let mut after = 0;
+        for (k, partition) in self.partitions.iter().enumerate() {
+            after += partition.slots;
             if slot < after {
                 return Some(k);
             }
-            first = after;
         }
         None
     }

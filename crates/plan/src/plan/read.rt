@@ -1,8 +1,9 @@
 //! The reader of a plan's text.
 
-ghost use Rattle.std.specs.Prelude.{◌≡◌, ◌≤◌, length, IfOk};
-ghost use Rattle.plan.specs.Reading.{numbers_at, bounded, contents_from, contents_at, ContentsKept, partition_from, PartitionRanged, partition_at, accelerator_from, AcceleratorRanged, accelerator_at, on_line, partitions_at, accelerators_at, reading, fronted, sectioned};
-ghost use Rattle.plan.specs.Rules.{PartitionKept, AcceleratorKept};
+ghost use Rattle.std.specs.Prelude.{◌≡◌, ℕ, ◌-◌, ◌≤◌, List, length, IfOk, Result};
+ghost use Rattle.plan.specs.declared.faults.Flaw.{Flaw};
+ghost use Rattle.plan.specs.Reading.{numbers_at, bounded, contents_from, contents_at, ContentsKept, partition_from, PartitionRanged, partition_at, less, accelerator_from, AcceleratorRanged, accelerator_at, items_at, itemized, reading};
+ghost use Rattle.plan.specs.Rules.{PartitionKept};
 ghost use Rattle.plan.specs.Texts.{laid_out, Filled, Exact};
 
 use crate::faults::{Fault, Flaw, Rule};
@@ -10,6 +11,10 @@ use crate::kinds::{Kind, kind_of};
 use crate::parts::{Accelerator, Partition};
 use crate::plan::Plan;
 use crate::plan::contents::Contents;
+use crate::plan::left::Left;
+use crate::plan::owners::Owners;
+use arrayvec::ArrayVec;
+use std::ops::Range;
 use text::lines::line;
 use text::numbers::{Digits, Malformed};
 
@@ -22,10 +27,10 @@ fn numbers<const N: usize>(
     ensures is { result ≡ numbers_at text.now wanted N at }
 {
     let (letter, numbers, next) = line(text, at, Digits::Seven)?;
-    match kind_of(letter) {
-        Some(found) if found == wanted => Ok((numbers, next)),
-        _ => Err(Malformed),
+    if kind_of(letter) != Some(wanted) {
+        return Err(Malformed);
     }
+    Ok((numbers, next))
 }
 
 /// The number of the field at `place`, which is to be `low` to `high`.
@@ -33,10 +38,11 @@ fn within(value: u64, low: u32, high: u32, place: u32) -> Result<u32, Flaw>
     ensures is { result ≡ bounded value low high place }
     ensures inside { IfOk result (λ x. (low ≤ x) × (x ≤ high)) }
 {
-    if value < u64::from(low) || value > u64::from(high) {
-        return Err(Flaw::Range(place));
+    if (u64::from(low)..=u64::from(high)).contains(&value) {
+        Ok(value as u32)
+    } else {
+        Err(Flaw::Range(place))
     }
-    Ok(value as u32)
 }
 
 /// The contents that have these numbers.
@@ -53,12 +59,12 @@ fn contents_from(numbers: [u64; 4]) -> Result<Contents, Flaw>
     })
 }
 
-/// The line of contents at `at`.
-fn contents_line(text: &[u8], at: usize) -> Result<(Contents, usize), Flaw>
-    ensures is { result ≡ contents_at text.now at }
+/// The line of contents, which is the first.
+fn contents_line(text: &[u8]) -> Result<(Contents, usize), Flaw>
+    ensures is { result ≡ contents_at text.now 0 }
     ensures inside { IfOk result (λ x. ContentsKept x.0) }
 {
-    let (numbers, next) = numbers::<4>(text, at, Kind::Contents)?;
+    let (numbers, next) = numbers::<4>(text, 0, Kind::Contents)?;
     Ok((contents_from(numbers)?, next))
 }
 
@@ -75,167 +81,141 @@ fn partition_from(numbers: [u64; 3]) -> Result<Partition, Flaw>
     })
 }
 
-/// The partition at `at`, where `blocks` blocks and `slots` slots are left.
-fn partition_line(
-    text: &[u8],
-    at: usize,
-    blocks: u32,
-    slots: u32,
-) -> Result<(Partition, usize), Flaw>
-    ensures is { result ≡ partition_at text.now (record { blocks = blocks; slots = slots }) at }
-    ensures inside { IfOk result (λ x. PartitionKept x.0 × (x.0.blocks ≤ blocks) × (x.0.slots ≤ slots)) }
+/// The partition at `at`, of what is left.
+fn partition_line(text: &[u8], at: usize, left: Left) -> Result<(Partition, usize), Flaw>
+    ensures is { result ≡ partition_at text.now left at }
+    ensures inside { IfOk result (λ x. PartitionKept x.0 × (x.0.blocks ≤ left.blocks) × (x.0.slots ≤ left.slots)) }
 {
     let (numbers, next) = numbers::<3>(text, at, Kind::Partition)?;
     let partition = partition_from(numbers)?;
     if partition.slots * partition.size > partition.blocks {
         return Err(Flaw::Broken(Rule::PartitionBlocks));
     }
-    if partition.blocks > blocks {
+    if partition.blocks > left.blocks {
         return Err(Flaw::Broken(Rule::FabricBlocks));
     }
-    if partition.slots > slots {
+    if partition.slots > left.slots {
         return Err(Flaw::Broken(Rule::SlotCount));
     }
     Ok((partition, next))
 }
 
-/// The accelerator that has these numbers, of one of so many partitions and tasks.
-fn accelerator_from(numbers: [u64; 4], partitions: u32, tasks: u32) -> Result<Accelerator, Flaw>
-    requires { (1 ≤ partitions) × (1 ≤ tasks) }
-    ensures is { result ≡ accelerator_from partitions tasks numbers }
-    ensures inside { IfOk result (AcceleratorRanged partitions tasks) }
+/// The accelerator that has these numbers, of one of the partitions and of one of the tasks.
+fn accelerator_from(numbers: [u64; 4], owners: Owners) -> Result<Accelerator, Flaw>
+    ensures is { result ≡ accelerator_from (length owners.entry.partitions.now) owners.entry.tasks numbers }
+    ensures inside { IfOk result (AcceleratorRanged (length owners.entry.partitions.now) owners.entry.tasks) }
 {
     let [partition, owner, need, run] = numbers;
+    let last_partition = owners.partitions.len() as u32 - 1;
     Ok(Accelerator {
-        partition: within(partition, 0, partitions - 1, 1)?,
-        owner: within(owner, 0, tasks - 1, 2)?,
+        partition: within(partition, 0, last_partition, 1)?,
+        owner: within(owner, 0, owners.tasks - 1, 2)?,
         need: within(need, 1, 1_000_000, 3)?,
         run: within(run, 1, 1_000_000, 4)?,
     })
 }
 
-/// The accelerator at `at`, of one of the partitions and of one of the tasks.
-fn accelerator_line(
-    text: &[u8],
-    at: usize,
-    partitions: &[Partition],
-    tasks: u32,
-) -> Result<(Accelerator, usize), Flaw>
-    requires some { (1 ≤ length partitions.now) × (1 ≤ tasks) }
-    requires few { length partitions.now ≤ 8 }
-    ensures is { result ≡ accelerator_at text.now partitions.now tasks at }
-    ensures inside { IfOk result (λ x. AcceleratorKept partitions.now tasks x.0) }
+/// The accelerator at `at`.
+fn accelerator_line(text: &[u8], at: usize, owners: Owners) -> Result<(Accelerator, usize), Flaw>
+    ensures { result ≡ accelerator_at text.now owners.entry.partitions.now owners.entry.tasks at }
 {
     let (numbers, next) = numbers::<4>(text, at, Kind::Accelerator)?;
-    let accelerator = accelerator_from(numbers, partitions.len() as u32, tasks)?;
-    if accelerator.need > partitions[accelerator.partition as usize].size {
+    let accelerator = accelerator_from(numbers, owners)?;
+    if accelerator.need > owners.partitions[accelerator.partition as usize].size {
         return Err(Flaw::Broken(Rule::SlotSize));
     }
     Ok((accelerator, next))
 }
 
-/// What is wrong with a line is wrong with the text at that line.
-fn at_line<T>(res: Result<T, Flaw>, line: u32) -> Result<T, Fault>
-    ensures { result ≡ on_line line res }
-{
-    match res {
-        Ok(value) => Ok(value),
-        Err(flaw) => Err(Fault::Line(line, flaw)),
+/// What the items of lines that follow one another are read against.
+trait Section: Copy {
+    type Item: Copy + Default;
+
+    ghost one: { List ℕ → Self → ℕ → Result (Self.Item × ℕ) Flaw };
+
+    ghost after: { Self → Self.Item → Self };
+
+    /// The item of the line at `at`, and the place after it.
+    fn item(&mut self, text: &[u8], at: usize) -> Result<(Self::Item, usize), Flaw>
+        ensures is { result ≡ one text.now self.old at }
+        ensures left { IfOk result (λ x. self.new ≡ after self.old x.0) };
+}
+
+impl Section for Left {
+    type Item = Partition;
+
+    ghost one = { partition_at };
+
+    ghost after = { less };
+
+    fn item(&mut self, text: &[u8], at: usize) -> Result<(Partition, usize), Flaw> {
+        let (partition, next) = partition_line(text, at, *self)?;
+        self.blocks -= partition.blocks;
+        self.slots -= partition.slots;
+        Ok((partition, next))
     }
 }
 
-/// The partitions from `at` on, at the front of a table, and the place after them.
-fn partition_lines(
+impl Section for Owners<'_> {
+    type Item = Accelerator;
+
+    ghost one = { λ text owners at. accelerator_at text owners.partitions.now owners.tasks at };
+
+    ghost after = { λ owners _. owners };
+
+    fn item(&mut self, text: &[u8], at: usize) -> Result<(Accelerator, usize), Flaw> {
+        accelerator_line(text, at, *self)
+    }
+}
+
+/// The items of these lines, the first of which is at `at`, and the place after them.
+fn items<S: Section, const N: usize>(
     text: &[u8],
     at: usize,
-    contents: Contents,
-) -> Result<([Partition; 8], usize), Fault>
-    requires { ContentsKept contents }
-    ensures is { fronted contents.partitions result ≡ partitions_at text.now contents at }
-    ensures size { IfOk result (λ x. length x.0 ≡ 8) }
+    lines: Range<u32>,
+    mut section: S,
+) -> Result<(ArrayVec<S::Item, N>, usize), Fault>
+    requires { lines.end - lines.start ≤ N }
+    ensures { itemized result ≡ items_at (S.one text.now) S.after (lines.end - lines.start) lines.start section at }
 {
-    let mut partitions = [Partition {
-        blocks: 0,
-        slots: 0,
-        size: 0,
-    }; 8];
-    let mut blocks = contents.fabric;
-    let mut slots = 32;
+    let mut items = ArrayVec::new();
     let mut next = at;
-    for k in 0..contents.partitions {
-        let (partition, after) = at_line(partition_line(text, next, blocks, slots), k + 2)?;
-        partitions[k as usize] = partition;
-        blocks -= partition.blocks;
-        slots -= partition.slots;
+    for line in lines {
+        let (item, after) = section
+            .item(text, next)
+            .map_err(|flaw| Fault::Line(line, flaw))?;
+        items.push(item);
         next = after;
     }
-    Ok((partitions, next))
-}
-
-/// The accelerators from `at` on, at the front of a table, and the place after them.
-fn accelerator_lines(
-    text: &[u8],
-    at: usize,
-    contents: Contents,
-    partitions: &[Partition],
-) -> Result<([Accelerator; 32], usize), Fault>
-    requires kept { ContentsKept contents }
-    requires all { length partitions.now ≡ contents.partitions }
-    ensures is { fronted contents.accelerators result ≡ accelerators_at text.now contents partitions.now at }
-    ensures size { IfOk result (λ x. length x.0 ≡ 32) }
-{
-    let mut accelerators = [Accelerator {
-        partition: 0,
-        owner: 0,
-        need: 0,
-        run: 0,
-    }; 32];
-    let mut next = at;
-    for a in 0..contents.accelerators {
-        let line = contents.partitions + a + 2;
-        let (accelerator, after) = at_line(
-            accelerator_line(text, next, partitions, contents.tasks),
-            line,
-        )?;
-        accelerators[a as usize] = accelerator;
-        next = after;
-    }
-    Ok((accelerators, next))
-}
-
-/// What the lines of a text say: the contents, and the two tables with the items at their fronts.
-fn sections(text: &[u8]) -> Result<(Contents, [Partition; 8], [Accelerator; 32]), Fault>
-    ensures is { sectioned result ≡ reading text.now }
-    ensures inside { IfOk result (λ x. ContentsKept x.0 × (length x.1 ≡ 8) × (length x.2 ≡ 32)) }
-{
-    if text.len() > 8192 {
-        return Err(Fault::Length);
-    }
-    let (contents, after_contents) = at_line(contents_line(text, 0), 1)?;
-    let (partitions, after_partitions) = partition_lines(text, after_contents, contents)?;
-    let count = contents.partitions as usize;
-    let (accelerators, end) = accelerator_lines(
-        text,
-        after_partitions,
-        contents,
-        &partitions[0..count],
-    )?;
-    if end != text.len() {
-        return Err(Fault::Rest(contents.partitions + contents.accelerators + 2));
-    }
-    Ok((contents, partitions, accelerators))
+    Ok((items, next))
 }
 
 /// The plan that a text says. It keeps the rules, since the text was accepted.
 fn parse(text: &[u8]) -> Result<Plan, Fault>
     ensures { laid_out result ≡ reading text.now }
 {
-    let (contents, partitions, accelerators) = sections(text)?;
+    if text.len() > 8192 {
+        return Err(Fault::Length);
+    }
+    let (contents, next) = contents_line(text).map_err(|flaw| Fault::Line(1, flaw))?;
+    let first_accelerator = contents.partitions + 2;
+    let past = contents.partitions + contents.accelerators + 2;
+    let left = Left {
+        blocks: contents.fabric,
+        slots: 32,
+    };
+    let (partitions, next) = items(text, next, 2..first_accelerator, left)?;
+    let owners = Owners {
+        partitions: &partitions,
+        tasks: contents.tasks,
+    };
+    let (accelerators, end) = items(text, next, first_accelerator..past, owners)?;
+    if end != text.len() {
+        return Err(Fault::Rest(past));
+    }
     Ok(Plan {
         fabric: contents.fabric,
         tasks: contents.tasks,
-        partition_count: contents.partitions as usize,
-        accelerator_count: contents.accelerators as usize,
         partitions,
         accelerators,
     })

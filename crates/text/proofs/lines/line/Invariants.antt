@@ -4,9 +4,9 @@ use Rattle.text.specs.Numbers.{most}
 use Rattle.text.specs.Lines.{fields_at}
 use Rattle.text.proofs.lines.line.Given as goal
 
-abbrev pub invariant-loop-i : goal.invariant-loop-i
-invariant-loop-i g l =
+abbrev pub invariant-loop-number : goal.invariant-loop-number
+invariant-loop-number g l =
     (l.at + 1 ≤ l.next) ×
     (l.next ≤ length l.text) ×
-    (length l.numbers ≡ l.i-end) ×
-    (fields_at l.text (most l.digits) l.i-end (l.at + 1) ≡ onto (take l.i l.numbers) (fields_at l.text (most l.digits) (l.i-end - l.i) l.next))
+    (length l.number-items ≡ g.row.N) ×
+    (fields_at l.text (most l.digits) g.row.N (l.at + 1) ≡ onto (take l.number-index l.number-items) (fields_at l.text (most l.digits) (g.row.N - l.number-index) l.next))

@@ -1,25 +1,43 @@
-use Rattle.std.proofs.Common.{sym, inl, inr, arith}
-use Rattle.text.proofs.Digits.{Stop, too_long, one_more, no_digit, done}
+use Rattle.std.proofs.Common.{◌≡◌, take, drop, ap, ◌∙◌, arith}
+use Rattle.std.specs.Result.{result_ok}
+use Rattle.std.proofs.lemmas.List.{take_all}
+use Rattle.text.specs.Forms.{written}
+use Rattle.text.proofs.Digits.{rest_is, run, run_length, numeral_run, numeral_over, numeral_none, next_digit, room, one_more}
 use Rattle.text.proofs.numbers.number.Goals as goal
-use Rattle.text.proofs.numbers.number.Goals.{then-loop-next-test+else-is_ascii_digit, else-loop-next-test}
+use Rattle.text.proofs.numbers.number.Goals.{then-count-eq0-via-then-count-eq0, then-count-eq0-via-else-count-eq0+then-count-most}
 
-pub returns-then-next-at : goal.returns-then-next-at
-returns-then-next-at c =
-    record { is = too_long _ _ _ _ _ c.loop-next.invariant c.loop-next-test.true (sym c.if-is_ascii_digit.ensures.value) (omega arith); inside = tt }
+pub returns-then-count-eq0-clause-is : goal.returns-then-count-eq0-clause-is
+returns-then-count-eq0-clause-is c =
+    let bs = drop c.args.at c.args.text.now in
+    let rest = rest_is c.args.text.now c.args.at c.in_ok-rest.rest c.get.result (c.ok_or.ensures.ok_part ∙ ap result_ok c.in_ok-rest.was) c.get.ensures.lookup in
+    let count : c.digits_in_front-count.result ≡ run bs = c.digits_in_front-count.ensures ∙ run_length c.in_ok-rest.rest.now ∙ ap run rest in
+    elim c.then-count-eq0.branch [
+      | then-count-eq0-via-then-count-eq0 w ↦ numeral_none _ _ bs (omega arith)
+      | then-count-eq0-via-else-count-eq0+then-count-most w ↦ numeral_over _ _ bs (omega arith) (omega arith)
+    ]
 
-pub loop-next-preserved : goal.loop-next-preserved
-loop-next-preserved c =
-    one_more _ _ _ _ _ c.loop-next.invariant c.loop-next-test.true (sym c.if-is_ascii_digit.ensures.value) (λ e. omega arith) c.from.result c.from.ensures (omega (arith, c.if-is_ascii_digit.ensures.cases))
+pub overflow_mul-value : goal.overflow_mul-value
+overflow_mul-value c =
+    omega (arith, room _ _ c.digits_in_front-count.ensures _ c.loop-digit-test.true c.loop-digit.value c.loop-digit.invariant.1 c.args.digits (omega arith))
 
-pub returns-then-next-at-2 : goal.returns-then-next-at-2
-returns-then-next-at-2 c =
-    let stop : Stop c.args.text.now c.loop-next.next = elim c.loop-next-test.branch [ then-loop-next-test+else-is_ascii_digit w ↦ inr (w.loop-next-test.true, sym w.if-is_ascii_digit.ensures.value) | else-loop-next-test w ↦ inl w.loop-next-test.false ] in
-    record { is = no_digit _ _ _ _ _ c.loop-next.invariant stop c.if-next-at-2.true; inside = tt }
+pub overflow_sub-digit : goal.overflow_sub-digit
+overflow_sub-digit c = (next_digit _ _ c.digits_in_front-count.ensures _ c.loop-digit-test.true).0
 
-pub returns : goal.returns
-returns c =
-    let stop : Stop c.args.text.now c.loop-next.next = elim c.loop-next-test.branch [ then-loop-next-test+else-is_ascii_digit w ↦ inr (w.loop-next-test.true, sym w.if-is_ascii_digit.ensures.value) | else-loop-next-test w ↦ inl w.loop-next-test.false ] in
-    record {
-      is = done _ _ _ _ _ c.loop-next.invariant stop c.if-next-at-2.false;
-      inside = (omega (arith, c.loop-next.invariant.from), c.loop-next.invariant.within (omega (arith, c.loop-next.invariant.from)));
-    }
+pub overflow_add-value : goal.overflow_add-value
+overflow_add-value c =
+    let d = next_digit _ _ c.digits_in_front-count.ensures _ c.loop-digit-test.true in
+    omega (arith, room _ _ c.digits_in_front-count.ensures _ c.loop-digit-test.true c.loop-digit.value c.loop-digit.invariant.1 c.args.digits (omega arith), d.0, d.1)
+
+pub loop-digit-preserved : goal.loop-digit-preserved
+loop-digit-preserved c =
+    one_more _ _ c.digits_in_front-count.ensures _ c.loop-digit-test.true _ c.loop-digit.invariant.1 _ c.from.ensures c.loop-digit.invariant.0
+
+pub returns-clause-is : goal.returns-clause-is
+returns-clause-is c =
+    let bs = drop c.args.at c.args.text.now in
+    let rest : c.in_ok-rest.rest.now ≡ bs = rest_is c.args.text.now c.args.at c.in_ok-rest.rest c.get.result (c.ok_or.ensures.ok_part ∙ ap result_ok c.in_ok-rest.was) c.get.ensures.lookup in
+    let count : c.digits_in_front-count.result ≡ run bs = c.digits_in_front-count.ensures ∙ run_length c.in_ok-rest.rest.now ∙ ap run rest in
+    let whole = take_all c.loop-digit.digit-index (take c.digits_in_front-count.result c.in_ok-rest.rest.now) (omega arith) in
+    let front : take c.digits_in_front-count.result c.in_ok-rest.rest.now ≡ take (run bs) bs = cc in
+    let value : c.loop-digit.value ≡ written 0 (take (run bs) bs) = c.loop-digit.invariant.0 ∙ ap (written 0) (whole ∙ front) in
+    rw (value, count) (numeral_run _ _ bs (omega arith) (omega arith))

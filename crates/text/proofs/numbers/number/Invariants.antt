@@ -1,10 +1,6 @@
-use Rattle.std.proofs.Common.{◌-◌, length}
-use Rattle.text.specs.Numbers.{most}
-use Rattle.text.proofs.Digits.{Reading}
+use Rattle.std.proofs.Common.{◌≡◌, ◌^◌, ◌<◌, take}
+use Rattle.text.specs.Forms.{written}
 use Rattle.text.proofs.numbers.number.Given as goal
 
-abbrev pub invariant-loop-next : goal.invariant-loop-next
-invariant-loop-next l = Reading l.text l.at (most l.digits) l.next l.value
-
-abbrev pub decreases-loop-next : goal.decreases-loop-next
-decreases-loop-next l = length l.text - l.next
+abbrev pub invariant-loop-digit : goal.invariant-loop-digit
+invariant-loop-digit l = (l.value ≡ written 0 (take l.digit-index l.digit-items)) × (l.value < 10 ^ l.digit-index)

@@ -4,4 +4,4 @@ use Rattle.plan.specs.Slots.{first_slot}
 use Rattle.plan.proofs.plan.Plan.partition_of.Given as goal
 
 abbrev pub invariant-loop-k : goal.invariant-loop-k
-invariant-loop-k l = (l.first ≡ first_slot (layout l.self) l.k) × (l.first ≤ l.slot)
+invariant-loop-k l = (l.after ≡ first_slot (layout l.self) l.k) × (l.after ≤ l.slot)

@@ -1,7 +1,0 @@
-use Rattle.std.proofs.Common.{◌≡◌}
-use Rattle.plan.specs.Layouts.{layout}
-use Rattle.plan.specs.Slots.{first_slot}
-use Rattle.plan.proofs.plan.Plan.slot_count.Given as goal
-
-abbrev pub invariant-loop-k : goal.invariant-loop-k
-invariant-loop-k l = l.count ≡ first_slot (layout l.self) l.k
