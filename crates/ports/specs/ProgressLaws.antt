@@ -20,7 +20,7 @@ pub progress_put : (ps : List Progress) (s : ℕ) (p : Progress) → length ps �
     progress_entries (slice_set ps s p) ≡ put_after true (progress_entries ps) s (progress_entry p s)
 progress_put ps s p l h = entries_put ps s p l h ∙ rw (and-false (half (progress_entry p s))) refl
 
-pub progress_fine : (p : Progress) (k : ℕ) → k ≤ 31 → Fine (progress_entry p k)
+progress_fine : (p : Progress) (k : ℕ) → k ≤ 31 → Fine (progress_entry p k)
 progress_fine p k h = record { image_fits = p.image_fits; size_fits = p.size_fits; in_size = p.in_size; flaw_fits = p.flaw_fits; board_fits = h }
 
 pub progresses_kept : (ps : List Progress) → Kept true (progress_entries ps)

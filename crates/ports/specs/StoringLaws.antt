@@ -21,34 +21,36 @@ stored_here xs b s h = each_here (λ k. stored_entry (slice_index_or xs k vacant
 still : (x : Stored) (k : ℕ) → half (stored_entry x 0 k) ≡ false
 still x k = elim x.whole as (λ b. (nat_lt 0 (cond b x.size 0) && nat_lt (cond b x.size 0) x.size) ≡ false) [ true ↦ and_right (nat_lt 0 x.size) (nat_lt x.size x.size) (le-ltb x.size x.size (le_refl x.size)) | false ↦ refl ]
 
--- a slot that waits for none: no other has progress
-pub no_progress : (b : Option Begun) (s k : ℕ) → waits b s ≡ false → k ≢ s → written_at b k ≡ 0
+-- where a slot waits for none, no other has progress
+no_progress : (b : Option Begun) (s k : ℕ) → waits b s ≡ false → k ≢ s → written_at b k ≡ 0
 no_progress None s k w d = refl
 no_progress (Some x) s k w d = rw (ne_eqb k x.slot.number (λ e. d (e ∙ eqb-true x.slot.number s (not-false _ w)))) refl
 
+none_else : (xs : List Stored) (b : Option Begun) (s : ℕ) → waits b s ≡ false → must_wait false (stored_entries xs b) s ≡ false
+none_else xs b s w =
+    none_below (stored_entries xs b) s 32
+    (λ t l d. ap half (stored_here xs b t (omega arith) ∙ ap (λ n. stored_entry (slice_index_or xs t vacant) n t) (no_progress b s t w d)) ∙ still (slice_index_or xs t vacant) t)
+
+one_else : (xs : List Stored) (x : Begun) (s : ℕ) → Current xs (Some x) → (x.slot.number ≢ s) → must_wait false (stored_entries xs (Some x)) s ≡ true
+one_else xs x s cur d =
+    let k = x.slot.number in
+    let n : written_at (Some x) k ≡ x.written = rw (eq-eqb k k refl) refl in
+    let l : k < 32 = omega (arith, x.slot.there) in
+    let q = cur k l (omega (arith, n, x.some)) in
+    let e = and_from (nat_lt 0 (written_at (Some x) k)) (nat_lt (written_at (Some x) k) (slice_index_or xs k vacant).size) (lt-ltb 0 (written_at (Some x) k) (omega (arith, n, x.some))) (lt-ltb (written_at (Some x) k) (slice_index_or xs k vacant).size q.1) in
+    (other_decides (stored_entries xs (Some x)) s 32).1 (k, l, (d, ap half (stored_here xs (Some x) k x.slot.there) ∙ rw q.0 e))
+
 -- who waits
 pub waits_is : (xs : List Stored) (b : Option Begun) (s : ℕ) → Current xs b → waits b s ≡ must_wait false (stored_entries xs b) s
-waits_is xs None s cur =
-    sym (none_below (stored_entries xs None) s 32 (λ t l d. ap half (stored_here xs None t (omega arith)) ∙ still (slice_index_or xs t vacant) t))
+waits_is xs None s cur = sym (none_else xs None s refl)
 waits_is xs (Some x) s cur =
     ⊎_elim
-    (λ (e : x.slot.number ≡ s).
-    rw (eq-eqb x.slot.number s e)
-    (sym (none_below (stored_entries xs (Some x)) s 32 (λ t l d.
-    ap half (stored_here xs (Some x) t (omega arith) ∙ ap (λ n. stored_entry (slice_index_or xs t vacant) n t) (no_progress (Some x) s t (rw (eq-eqb x.slot.number s e) refl) d)) ∙ still (slice_index_or xs t vacant) t))))
-    (λ (d : x.slot.number ≢ s).
-    let k = x.slot.number in
-    let at : written_at (Some x) k ≡ x.written = rw (eq-eqb k k refl) refl in
-    let l : k < 32 = omega (arith, x.slot.there) in
-    let q = cur k l (omega (arith, at, x.some)) in
-    let e : half (slice_index_or (stored_entries xs (Some x)) k nothing) ≡ true =
-    ap half (stored_here xs (Some x) k x.slot.there)
-    ∙ rw q.0 (and_from (nat_lt 0 (written_at (Some x) k)) (nat_lt (written_at (Some x) k) (slice_index_or xs k vacant).size) (lt-ltb 0 (written_at (Some x) k) (omega (arith, at, x.some))) (lt-ltb (written_at (Some x) k) (slice_index_or xs k vacant).size q.1)) in
-    rw (ne_eqb k s d) (sym ((other_decides (stored_entries xs (Some x)) s 32).1 (k, l, (d, e)))))
+    (λ (e : x.slot.number ≡ s). let w : waits (Some x) s ≡ false = rw (eq-eqb x.slot.number s e) refl in w ∙ sym (none_else xs (Some x) s w))
+    (λ (d : x.slot.number ≢ s). rw (ne_eqb x.slot.number s d) (sym (one_else xs x s cur d)))
     (cases_eq x.slot.number s)
 
 -- what is stored stands for its progress
-pub stored_is : (p : Progress) (x : Stored) (n s : ℕ) → IsStored p x → (p.written ≢ p.size → n ≡ p.written) → stored_entry x n s ≡ progress_entry p s
+stored_is : (p : Progress) (x : Stored) (n s : ℕ) → IsStored p x → (p.written ≢ p.size → n ≡ p.written) → stored_entry x n s ≡ progress_entry p s
 stored_is p x n s i f =
     rw (i.image, i.size, i.whole, i.flaw)
     (⊎_elim
@@ -56,8 +58,8 @@ stored_is p x n s i f =
     (λ (d : p.written ≢ p.size). rw (ne_eqb p.written p.size d) (ap (λ m. record { image = p.image; size = p.size; written = m; flaw = p.flaw; board = s }) (f d)))
     (cases_eq p.written p.size))
 
-pub progress_fits : (x : Stored) (n : ℕ) → n ≤ x.size → cond x.whole x.size n ≤ x.size
-progress_fits x n h = elim x.whole as (λ b. cond b x.size n ≤ x.size) [ true ↦ le_refl x.size | false ↦ h ]
+written_fits : (x : Stored) (n : ℕ) → n ≤ x.size → cond x.whole x.size n ≤ x.size
+written_fits x n h = elim x.whole as (λ b. cond b x.size n ≤ x.size) [ true ↦ le_refl x.size | false ↦ h ]
 
 -- progress ends below the size
 pub within : (xs : List Stored) (b : Option Begun) (k : ℕ) → Current xs b → k ≤ 31 → written_at b k ≤ (slice_index_or xs k vacant).size
@@ -68,7 +70,7 @@ within xs b k cur h =
     (cases_eq (written_at b k) 0)
 
 stored_fine : (x : Stored) (n k : ℕ) → n ≤ x.size → k ≤ 31 → Fine (stored_entry x n k)
-stored_fine x n k h l = record { image_fits = x.image_fits; size_fits = x.size_fits; in_size = progress_fits x n h; flaw_fits = x.flaw_fits; board_fits = l }
+stored_fine x n k h l = record { image_fits = x.image_fits; size_fits = x.size_fits; in_size = written_fits x n h; flaw_fits = x.flaw_fits; board_fits = l }
 
 -- what is half written waits for none
 half_alone : (b : Option Begun) (x : Stored) (k : ℕ) → half (stored_entry x (written_at b k) k) ≡ true → waits b k ≡ false

@@ -1,6 +1,6 @@
 //! How far the writing of one slot has come.
 
-ghost use Rattle.std.specs.Prelude.{◌&&◌, nat_lt, ◌≡◌, ◌<◌, ◌≤◌, ◌-◌, ℕ};
+ghost use Rattle.std.specs.Prelude.{◌≡◌, ℕ, ◌<◌, ◌≤◌, ◌-◌, ◌&&◌, nat_lt};
 ghost use Rattle.ports.specs.Meaning.{block_of};
 
 use crate::answers::Fed;

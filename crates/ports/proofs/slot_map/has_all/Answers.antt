@@ -3,7 +3,7 @@ use Rattle.std.proofs.Common.{refl, rules, tests}
 use Rattle.std.proofs.lemmas.Iterator.{YieldsList-from_range}
 use Rattle.std.proofs.lemmas.Iterator.Search.{all_from_yields_List}
 use Rattle.ports.specs.Maps.{holds, covers}
-use Rattle.ports.proofs.slot_map.calls.has_all.Goals as goal
+use Rattle.ports.proofs.slot_map.has_all.Goals as goal
 
 pub returns : goal.returns
 unfolding covers
