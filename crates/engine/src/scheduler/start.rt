@@ -16,6 +16,7 @@ fn shut_all<P: Port>(port: &mut P)
     ensures { P.Port.meaning port.new ≡ shut_below 32 (P.Port.meaning port.old) }
 {
     for slot in 0..32u32 {
+        // No port refuses to shut one of its 32 slots.
         let _ = port.shut(slot);
     }
 }
