@@ -55,6 +55,7 @@ fn round<D: Delivered + Drop>(
 {
     let [a, b, c] = accelerators;
     // tasks 1 and 2 share a slot: the one that waits for it can interrupt the writing for task 0
+    // (each claim has a name: an array of what may not be let go has no `map`)
     let second = ask(scheduler, rows, 1, b);
     let third = ask(scheduler, rows, 2, c);
     let first = ask(scheduler, rows, 0, a);
