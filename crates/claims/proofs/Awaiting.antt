@@ -146,7 +146,7 @@ collects_it (Ok (Ticked o n)) h u = no_true h
 collects_it (Ok (Completed t)) h u = no_true h
 collects_it (Ok (Collected r)) h u = (r, refl)
 collects_it (Ok (Stands σ)) h u = no_true h
-collects_it (Err why) h u = let z : ◌≡◌ {A = ℕ} 0 1 = cc in absurd (omega arith)
+collects_it (Err why) h u = grind arith
 
 accepted_told : (r : Result Report Refusal) (q : Report) → told Collected r ≡ Ok (Collected q) → (x : Report) × (r ≡ Ok x)
 accepted_told (Ok x) q e = (x, refl)
