@@ -56,12 +56,7 @@ grown : (k t n x : ℕ) → k ≤ t + n → k ≤ x + t + n
 grown k t n x h = omega arith
 
 quiet : (c : Call) (a : Result Answer Refusal) (t : ℕ) → names c t ≡ 0 → collects c a t ≡ 0
-quiet c (Ok (Ticket u)) t e = refl
-quiet c (Ok (Ticked o n)) t e = refl
-quiet c (Ok (Completed u)) t e = refl
-quiet c (Ok (Collected r)) t e = e
-quiet c (Ok (Stands σ)) t e = refl
-quiet c (Err why) t e = refl
+quiet c a t e = grind arith
 
 module _ {s s' : State} {c : Call} {a : Result Answer Refusal} (p : Performed s c a s') where
   abbrev runs_on : Run s → Run s'

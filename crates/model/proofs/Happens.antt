@@ -40,8 +40,7 @@ pub data Happened (s : State) : Call → Result Answer Refusal → State → Typ
   asked : (task : ℕ) → Happened s (StageOf task) (Ok (Stands (at s.records task).stage)) s
 
 passed : (b : Bool) (r : Refusal) (w : Option Refusal) → cond b (Some r) w ≡ None → (b ≡ false) × (w ≡ None)
-passed true r w e = grind arith
-passed false r w e = (refl, e)
+passed b r w e = grind arith
 
 accepts : (s : State) (task a : ℕ) → why_request s task a ≡ None → Accepts s task a
 accepts s task a e =
