@@ -56,12 +56,7 @@ grown : (k t n x : ℕ) → k ≤ t + n → k ≤ x + t + n
 grown k t n x h = omega arith
 
 quiet : (c : Call) (a : Result Answer Refusal) (t : ℕ) → names c t ≡ 0 → collects c a t ≡ 0
-quiet c (Ok (Ticket u)) t e = refl
-quiet c (Ok (Ticked o n)) t e = refl
-quiet c (Ok (Completed u)) t e = refl
-quiet c (Ok (Collected r)) t e = e
-quiet c (Ok (Stands σ)) t e = refl
-quiet c (Err why) t e = refl
+quiet c a t e = grind arith
 
 module _ {s s' : State} {c : Call} {a : Result Answer Refusal} (p : Performed s c a s') where
   abbrev runs_on : Run s → Run s'
@@ -146,7 +141,7 @@ collects_it (Ok (Ticked o n)) h u = no_true h
 collects_it (Ok (Completed t)) h u = no_true h
 collects_it (Ok (Collected r)) h u = (r, refl)
 collects_it (Ok (Stands σ)) h u = no_true h
-collects_it (Err why) h u = let z : ◌≡◌ {A = ℕ} 0 1 = cc in absurd (omega arith)
+collects_it (Err why) h u = grind arith
 
 accepted_told : (r : Result Report Refusal) (q : Report) → told Collected r ≡ Ok (Collected q) → (x : Report) × (r ≡ Ok x)
 accepted_told (Ok x) q e = (x, refl)

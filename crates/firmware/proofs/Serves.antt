@@ -12,28 +12,35 @@ use Rattle.model.specs.Laws.{Opened}
 use Rattle.model.proofs.Reaches.{start_rate}
 use Rattle.claims.specs.declared.Claim.{Claim}
 use Rattle.claims.specs.Claims.{Names}
-use Rattle.claims.specs.Awaits.{stay_in, Awaited, Onward, HandedIf, HandsOver}
-use Rattle.firmware.specs.Readings.{Ready, Collected}
+use Rattle.claims.specs.Awaits.{stay_in, Awaited, Onward, Handed}
+use Rattle.firmware.specs.declared.readings.Asked.{Asked}
+use Rattle.firmware.specs.Readings.{GoesOn, Ready, Of, Collected, CollectedIf}
 use Rattle.firmware.specs.Rounds.{no_row, stay_at, Serving}
 
-serving_on : {s s' : State} {rows : List Row} → Serving s rows → Onward s s' → Serving s' rows
+pub serving_on : {s s' : State} {rows : List Row} → Serving s rows → Onward s s' → Serving s' rows
 serving_on v o = record {
   run = o.run;
   stays = λ a known. o.stays a ∙ v.stays a (subst (λ (l : Layout). a < length l.accelerators) o.layout known);
 }
 
--- after a request, and after a claim is collected
-pub asked : {s s' : State} {rows : List Row} {a : ℕ} {r : Result Claim Refusal} → Serving s rows → HandsOver s a s' r → Serving s' rows
-asked v q = serving_on v (q.goes_on v.run)
+-- a claim that is handed over is ready within the stay of its accelerator
+pub ready : {s : State} {rows : List Row} (task a stay : ℕ) (c : Claim) → Serving s rows → Names task c → Handed s a c → stay ≡ stay_at rows a → Ready s (record { task = task; claim = c; stay = stay })
+ready {s} task a stay c v named handed e = record { names = named; awaited = subst (Awaited s c) (v.stays a handed.known ∙ sym e) handed.awaited }
 
-pub done : {s s' : State} {rows : List Row} {task : ℕ} → Serving s rows → Collected task s s' → Serving s' rows
-done v f = serving_on v (f.goes_on v.run)
+-- a request stays ready while other tasks ask
+pub ready_on : {s s' : State} (r : Result Asked Refusal) → GoesOn s s' → IfOk r (Ready s) → IfOk r (Ready s')
+ready_on (Ok q) o w = record { names = w.names; awaited = o.keeps q.claim q.stay tt w.awaited }
+ready_on (Err why) o w = tt
 
--- a claim that was handed over and is kept is ready to be completed within the stay of its accelerator
-pub ready : {s s' : State} {rows : List Row} {task stay : ℕ} (a : ℕ) (r : Result Claim Refusal) → Serving s rows → IfOk r (Names task) → HandedIf s a r → ((c : Claim) (n : ℕ) → Names task c → Awaited s c n → Awaited s' c n) → stay ≡ stay_at rows a → IfOk r (Ready s' task stay)
-ready {s} a (Ok c) v named handed kept e =
-    record { names = named; awaited = kept c _ named (subst (Awaited s c) (v.stays a handed.known ∙ sym e) handed.awaited) }
-ready a (Err why) v named handed kept e = tt
+-- and while the request of another task is completed
+pub ready_past : {s s' : State} {task other : ℕ} (r : Result Asked Refusal) → IfOk r (Of task) → (task ≡ other → ⊥) → Collected other s s' → IfOk r (Ready s) → IfOk r (Ready s')
+ready_past (Ok q) of ne c w =
+    record { names = w.names; awaited = c.keeps q.claim q.stay (λ e. ne (sym of ∙ sym w.names.task_is ∙ e)) w.awaited }
+ready_past (Err why) of ne c w = tt
+
+pub completed : {s s' : State} {task : ℕ} (r : Result Asked Refusal) → IfOk r (Of task) → CollectedIf s s' r → Collected task s s'
+completed {s} {s'} (Ok q) of c = subst (λ (t : ℕ). Collected t s s') of c
+completed (Err why) of c = record { keeps = λ d n _ w. c.keeps d n tt w; goes_on = c.goes_on }
 
 -- a start, with the rows of its table
 pub serving_start : (l : Layout) (kd : Bool) (m : Meaning) (s : State) (old rows : List Row) → s ≡ start l kd 1 m → Opened l kd 1 s → length old ≡ 32 → length l.accelerators ≤ 32 → rows ≡ table_after l m.rate kd old → Serving s rows

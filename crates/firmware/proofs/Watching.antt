@@ -36,17 +36,10 @@ goes_by p none = record { keeps = keeps_all p none; goes_on = onward p }
 -- ---- what the stage tells of a claim
 
 stage_known : (b h e u v : Bool) → cond b false (cond h e false) ≡ true → (h ≡ true → u ≡ not v) → cond b false (cond h (cond e u false) false) ≡ not (cond b false v)
-stage_known true h e u v x y = let z : ◌≡◌ {A = ℕ} 0 1 = cc in absurd (omega arith)
-stage_known false false e u v x y = let z : ◌≡◌ {A = ℕ} 0 1 = cc in absurd (omega arith)
-stage_known false true false u v x y = let z : ◌≡◌ {A = ℕ} 0 1 = cc in absurd (omega arith)
-stage_known false true true u v x y = y refl
+stage_known b h e u v x y = grind arith
 
 not_ended : (σ : Stage) → held_stage σ ≡ true → unended_stage σ ≡ not (ended_stage σ)
-not_ended Empty h = let z : ◌≡◌ {A = ℕ} 0 1 = cc in absurd (omega arith)
-not_ended Queued h = refl
-not_ended (Reserved x) h = refl
-not_ended (Running x) h = refl
-not_ended (Ended x o) h = refl
+not_ended σ h = grind arith
 
 -- an awaited request is unended just while its stage is
 pub unended_while : {s : State} {c : Claim} {n : ℕ} → Awaited s c n → unended s c.task c.ticket ≡ not (ended_in s c.task)

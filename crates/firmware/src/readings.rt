@@ -1,8 +1,8 @@
-//! One reading: its claim is watched until the request has ended, and collected.
+//! One reading: its request is watched until it has ended, and its claim is collected.
 
 ghost use Rattle.std.specs.Prelude.{◌≡◌, is_ok, IfOk};
 ghost use Rattle.engine.specs.State.{state};
-ghost use Rattle.firmware.specs.Readings.{ended_in, Watched, GoesOn, Ready, Collected};
+ghost use Rattle.firmware.specs.Readings.{ended_in, Watched, GoesOn, Ready, CollectedIf};
 
 use claims::{Claim, collect_claim};
 use engine::scheduler::Scheduler;
@@ -10,14 +10,21 @@ use model::refusals::Refusal;
 use model::requests::{Report, Stage};
 use ports::port::Port;
 
+/// A request that was accepted: its task, its claim, and the ticks that its accelerator can stay.
+pub struct Asked {
+    pub task: u32,
+    pub claim: Claim,
+    pub stay: u32,
+}
+
+/// What became of a request: what was collected, or why it was refused.
+pub type Reading = Result<Report, Refusal>;
+
 /// Whether the request of a task has ended.
 fn has_ended<P: Port>(scheduler: &Scheduler<P>, task: u32) -> bool
     ensures { result ≡ ended_in (state P.Port scheduler.now) task }
 {
-    match scheduler.stage(task) {
-        Ok(Stage::Ended { .. }) => true,
-        _ => false,
-    }
+    matches!(scheduler.stage(task), Ok(Stage::Ended { .. }))
 }
 
 /// The accelerator of task 2 says that it is done as soon as it runs.
@@ -29,31 +36,32 @@ fn report_done<P: Port>(scheduler: &mut Scheduler<P>)
     }
 }
 
-/// Ticks until the request of a claim has ended: at most `stay` ticks.
-fn watch<P: Port>(scheduler: &mut Scheduler<P>, task: u32, claim: &Claim, stay: u32)
-    requires { Ready (state P.Port scheduler.old) task stay claim.now }
-    ensures { Watched (state P.Port scheduler.old) claim.now (state P.Port scheduler.new) }
+/// Ticks until a request has ended: at most as many ticks as it can stay.
+fn watch<P: Port>(scheduler: &mut Scheduler<P>, asked: &Asked)
+    requires { Ready (state P.Port scheduler.old) asked.now }
+    ensures { Watched (state P.Port scheduler.old) asked.now.claim (state P.Port scheduler.new) }
 {
-    for n in 0..stay {
+    for _ in 0..asked.stay {
         report_done(scheduler);
-        if has_ended(scheduler, task) {
+        if has_ended(scheduler, asked.task) {
             return;
         }
         scheduler.tick();
     }
 }
 
-/// Watches the request of a claim to its end and collects it. A refusal is handed on.
-pub fn complete<P: Port>(
-    scheduler: &mut Scheduler<P>,
-    task: u32,
-    claim: Result<Claim, Refusal>,
-    stay: u32,
-) -> Result<Report, Refusal>
-    requires { IfOk claim (Ready (state P.Port scheduler.old) task stay) }
-    ensures { (Collected task (state P.Port scheduler.old) (state P.Port scheduler.new)) × (is_ok result ≡ is_ok claim) }
+/// Watches a request to its end and collects its claim. A refusal is handed on.
+pub fn complete<P: Port>(scheduler: &mut Scheduler<P>, asked: Result<Asked, Refusal>) -> Reading
+    requires { IfOk asked (Ready (state P.Port scheduler.old)) }
+    ensures collected { CollectedIf (state P.Port scheduler.old) (state P.Port scheduler.new) asked }
+    ensures handed_on { is_ok result ≡ is_ok asked }
 {
-    let mut claim = claim?;
-    watch(scheduler, task, &claim, stay);
+    let asked = asked?;
+    watch(scheduler, &asked);
+    let Asked {
+        task: _,
+        mut claim,
+        stay: _,
+    } = asked;
     collect_claim(scheduler, &mut claim)
 }

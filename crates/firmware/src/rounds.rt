@@ -1,29 +1,47 @@
 //! Rounds of readings: three tasks ask at once, and each claim is collected before the next round.
 
-ghost use Rattle.std.specs.Prelude.{◌≡◌, length};
+ghost use Rattle.std.specs.Prelude.{◌≡◌, IfOk};
 ghost use Rattle.engine.specs.State.{state};
+ghost use Rattle.firmware.specs.Readings.{GoesOn, Ready, Of};
 ghost use Rattle.firmware.specs.Rounds.{layered, stay_at, Serving};
 
-use crate::readings::complete;
-use claims::{Claim, request_claim};
+use crate::readings::{Asked, Reading, complete};
+use claims::request_claim;
 use delays::table::{Row, table};
 use engine::scheduler::Scheduler;
 use model::refusals::Refusal;
-use model::requests::Report;
 use plan::plan::Plan;
 use ports::delivered::Delivered;
+use ports::port::Port;
 use ports::renumbered::Renumbered;
 use ports::slot_map::SlotMap;
-
-/// What became of a request: what was collected, or why it was refused.
-pub type Reading = Result<Report, Refusal>;
 
 /// The stay of an accelerator in the delay table.
 fn stay_of(rows: &[Row; 32], accelerator: u32) -> u32
     ensures { result ≡ stay_at rows.now accelerator }
 {
-    let at = accelerator as usize;
-    if at < rows.len() { rows[at].stay } else { 0 }
+    rows.get(accelerator as usize).map_or(0, |row| row.stay)
+}
+
+/// A task asks for its accelerator.
+fn ask<P: Port>(
+    scheduler: &mut Scheduler<P>,
+    rows: &[Row; 32],
+    task: u32,
+    accelerator: u32,
+) -> Result<Asked, Refusal>
+    requires { Serving (state P.Port scheduler.old) rows.now }
+    ensures serving { Serving (state P.Port scheduler.new) rows.now }
+    ensures goes_on { GoesOn (state P.Port scheduler.old) (state P.Port scheduler.new) }
+    ensures of { IfOk result (Of task) }
+    ensures ready { IfOk result (Ready (state P.Port scheduler.new)) }
+{
+    let claim = request_claim(scheduler, task, accelerator)?;
+    Ok(Asked {
+        task,
+        claim,
+        stay: stay_of(rows, accelerator),
+    })
 }
 
 /// Each task asks for its accelerator, and then each claim is collected.
@@ -37,12 +55,13 @@ fn round<D: Delivered + Drop>(
 {
     let [a, b, c] = accelerators;
     // tasks 1 and 2 share a slot: the one that waits for it can interrupt the writing for task 0
-    let second = request_claim(scheduler, 1, b);
-    let third = request_claim(scheduler, 2, c);
-    let first = request_claim(scheduler, 0, a);
-    let first = complete(scheduler, 0, first, stay_of(rows, a));
-    let second = complete(scheduler, 1, second, stay_of(rows, b));
-    let third = complete(scheduler, 2, third, stay_of(rows, c));
+    // (each claim has a name: an array of what may not be let go has no `map`)
+    let second = ask(scheduler, rows, 1, b);
+    let third = ask(scheduler, rows, 2, c);
+    let first = ask(scheduler, rows, 0, a);
+    let first = complete(scheduler, first);
+    let second = complete(scheduler, second);
+    let third = complete(scheduler, third);
     [first, second, third]
 }
 
@@ -54,6 +73,7 @@ pub fn serve<D: Delivered + Drop>(plan: Plan, port: D, map: SlotMap) -> [[Readin
         write: 0,
         stay: 0,
     }; 32];
+    // no plan has more accelerators than there are rows
     let _ = table(&plan, &port, &mut rows);
     let mut scheduler = Scheduler::start(plan, port, 1);
     let first = round(&mut scheduler, &rows, [0, 2, 3]);

@@ -49,13 +49,10 @@ tasks_of {l} i r t b h =
     omega (arith, o.mine, (r.accelerators _ o.there).1)
 
 cond_same : {A : Type 0} (b : Bool) (x : A) → cond b x x ≡ x
-cond_same true x = refl
-cond_same false x = refl
+cond_same b x = grind arith
 
 held_parts : (b c d : Bool) → cond b false (cond c d false) ≡ true → (c ≡ true) × (d ≡ true)
-held_parts true c d e = no_true e
-held_parts false true d e = (refl, e)
-held_parts false false d e = no_true e
+held_parts b c d e = grind arith
 
 abbrev pub event : State → Call → Result Answer Refusal → Event
 event s c a = record { before = s; call = c; answer = a }

@@ -14,18 +14,10 @@ abbrev pub counted : Record → Record
 counted r = record { accelerator = r.accelerator; ticket = r.ticket; stage = r.stage; waited = r.waited + one (waiting_stage r.stage); written = r.written; run = r.run + one (running_stage r.stage) }
 
 waits_one : (σ : Stage) (n : ℕ) → (held_stage σ ≡ true → n < 4294967295) → cond (waiting_stage σ) (up n) n ≡ n + one (waiting_stage σ)
-waits_one Empty n h = omega arith
-waits_one Queued n h = omega (arith, h refl)
-waits_one (Reserved s) n h = omega (arith, h refl)
-waits_one (Running s) n h = omega arith
-waits_one (Ended s o) n h = omega arith
+waits_one σ n h = grind arith
 
 runs_one : (σ : Stage) (n : ℕ) → (held_stage σ ≡ true → n < 4294967295) → cond (running_stage σ) (up n) n ≡ n + one (running_stage σ)
-runs_one Empty n h = omega arith
-runs_one Queued n h = omega arith
-runs_one (Reserved s) n h = omega arith
-runs_one (Running s) n h = omega (arith, h refl)
-runs_one (Ended s o) n h = omega arith
+runs_one σ n h = grind arith
 
 pub aged_counted : (r : Record) → (held_stage r.stage ≡ true → Roomy r) → aged r ≡ counted r
 aged_counted r h =

@@ -40,8 +40,7 @@ pub data Happened (s : State) : Call → Result Answer Refusal → State → Typ
   asked : (task : ℕ) → Happened s (StageOf task) (Ok (Stands (at s.records task).stage)) s
 
 passed : (b : Bool) (r : Refusal) (w : Option Refusal) → cond b (Some r) w ≡ None → (b ≡ false) × (w ≡ None)
-passed true r w e = let z : ◌≡◌ {A = ℕ} 0 1 = cc in absurd (omega arith)
-passed false r w e = (refl, e)
+passed b r w e = grind arith
 
 accepts : (s : State) (task a : ℕ) → why_request s task a ≡ None → Accepts s task a
 accepts s task a e =
@@ -72,7 +71,7 @@ either s c (Some r) a s' q h = Happened.refused c r q
 either s c None a s' q h = h refl
 
 done_at : (s : State) (slot : ℕ) (o : Option ℕ) → Found (runs_in slot) s.records o → on_found o (Some NotRunning) (λ i. None) ≡ None → Happened s (Done slot) (Ok (Completed (on_found o 0 (λ i. (at s.records i).ticket)))) (on_found o s (λ i. settle (finish s i Finished)))
-done_at s slot None f e = let z : ◌≡◌ {A = ℕ} 0 1 = cc in absurd (omega arith)
+done_at s slot None f e = grind arith
 done_at s slot (Some i) f e = Happened.completed slot i f
 
 asked_at : (s : State) (task : ℕ) (w : Option Refusal) → Happened s (StageOf task) (judged w (Stands (at s.records task).stage)) s

@@ -19,7 +19,7 @@ next_queued s k = lowest (queued_in s.layout k) s.records
 pub fill_empty : (k : ℕ) (slots : List ℕ) (s : State) → first_of slots ≡ None → fill k slots s ≡ s
 unfolding fill
 fill_empty k [] s e = refl
-fill_empty k (slot ∷ rest) s e = let z : ◌≡◌ {A = ℕ} 0 1 = cc in absurd (omega arith)
+fill_empty k (slot ∷ rest) s e = grind arith
 
 pub fill_none : (k : ℕ) (slots : List ℕ) (s : State) → next_queued s k ≡ None → fill k slots s ≡ s
 unfolding fill
@@ -28,7 +28,7 @@ fill_none k (slot ∷ rest) s e = ap (λ (o : Option ℕ). on_found o s (λ i. f
 
 fill_one : (k : ℕ) (slots : List ℕ) (s : State) (slot i : ℕ) → first_of slots ≡ Some slot → next_queued s k ≡ Some i → fill k slots s ≡ fill k (drop 1 slots) (grant s k i slot (drop 1 slots))
 unfolding fill
-fill_one k [] s slot i f e = let z : ◌≡◌ {A = ℕ} 0 1 = cc in absurd (omega arith)
+fill_one k [] s slot i f e = grind arith
 fill_one k (x ∷ rest) s slot i f e =
     let z : x ≡ slot = cc in
     ap (λ (o : Option ℕ). on_found o s (λ j. fill k rest (grant s k j x rest))) e ∙ ap (λ (n : ℕ). fill k rest (grant s k i n rest)) z
@@ -48,7 +48,7 @@ fill_step k s s' slot i f e g =
     ∙ sym (fill_one k (line s k) s slot i f e)
 
 shorter : (xs : List ℕ) (slot : ℕ) → first_of xs ≡ Some slot → length (drop 1 xs) < length xs
-shorter [] slot f = let z : ◌≡◌ {A = ℕ} 0 1 = cc in absurd (omega arith)
+shorter [] slot f = grind arith
 shorter (x ∷ xs) slot f = omega (arith, length-drop 1 (x ∷ xs))
 
 pub fill_less : (k : ℕ) (s s' : State) (slot i : ℕ) → first_of (line s k) ≡ Some slot → s' ≡ grant s k i slot (drop 1 (line s k)) → length (line s' k) < length (line s k)

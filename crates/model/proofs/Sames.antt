@@ -65,9 +65,7 @@ same_staged rs i σ l h e =
 
 -- a fed request is reserved, running or ended, in the slot that it had
 fed_held : (slot : ℕ) (told : Result Fed Refusal) (left : ℕ) → held_stage (fed_stage slot told left) ≡ true
-fed_held slot (Ok (Flawed b d)) left = refl
-fed_held slot (Ok (Wrote n)) left = cond_both (eqb left 0) (Running slot) (Reserved slot) (λ σ. held_stage σ ≡ true) (λ _. refl) (λ _. refl)
-fed_held slot (Err why) left = refl
+fed_held slot told left = grind arith
 
 abbrev slot_at : State → ℕ → ℕ
 slot_at s i = slot_of (at s.records i).stage
@@ -77,11 +75,7 @@ stage_fed_held s i = fed_held (slot_at s i) (feed_answer s.interrupts s.port (sl
 
 -- freeing a slot leaves the records, the layout and the ticket to come
 pub freed_records : (σ : Stage) (k : ℕ) (s : State) → (freed_by σ k s).records ≡ s.records
-freed_records Empty k s = refl
-freed_records Queued k s = refl
-freed_records (Reserved x) k s = refl
-freed_records (Running x) k s = refl
-freed_records (Ended x o) k s = refl
+freed_records σ k s = grind arith
 
 pub freed_framed : (σ : Stage) (k : ℕ) (s : State) → Framed s (freed_by σ k s)
 freed_framed Empty k s = framed Way.none

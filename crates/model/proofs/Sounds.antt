@@ -76,15 +76,10 @@ timing_reached {l} {kd} (Reached.called {h} {s} {s'} c a r says leaves) =
     (timing_step s c a s' (base_reached r) (invariant_reached r) (timing_reached r) (happens s c a s' says leaves))
 
 one_most : (x : Bool) → one x ≤ 1
-one_most true = omega arith
-one_most false = omega arith
+one_most x = grind arith
 
 plain_alive : (σ : Stage) → unended_stage σ ≡ true → overrun_stage σ ≡ false
-plain_alive Empty e = refl
-plain_alive Queued e = refl
-plain_alive (Reserved x) e = refl
-plain_alive (Running x) e = refl
-plain_alive (Ended x o) e = no_true e
+plain_alive σ e = grind arith
 
 module _ {l : Layout} {kd : Bool} {first : ℕ} {h : Trace} (s : State) (r : Reached l kd first h s) where
   abbrev rate : ℕ

@@ -194,18 +194,10 @@ tally_collect {l} {h} {rs} {n} s i u r ts t b hd named image =
 -- ---- what collect would answer, by the record
 
 holds_by : (b c d e : Bool) (r : Report) → collectable (judged (cond b (Some NoTask) (cond (not c) (Some NoRequest) (cond (not d) (Some OtherTicket) (cond e (Some Unended) None)))) (Collected r)) ≡ cond b false (cond c d false)
-holds_by true c d e r = refl
-holds_by false false d e r = refl
-holds_by false true false e r = refl
-holds_by false true true true r = refl
-holds_by false true true false r = refl
+holds_by b c d e r = grind arith
 
 unended_by : (b c d e : Bool) (r : Report) → too_early (judged (cond b (Some NoTask) (cond (not c) (Some NoRequest) (cond (not d) (Some OtherTicket) (cond e (Some Unended) None)))) (Collected r)) ≡ cond b false (cond c (cond d e false) false)
-unended_by true c d e r = refl
-unended_by false false d e r = refl
-unended_by false true false e r = refl
-unended_by false true true true r = refl
-unended_by false true true false r = refl
+unended_by b c d e r = grind arith
 
 pub holds_is : (s : State) (i t : ℕ) → holds s i t ≡ cond (leb s.layout.tasks i) false (cond (held_stage (at s.records i).stage) (eqb (at s.records i).ticket t) false)
 holds_is s i t = holds_by (leb s.layout.tasks i) (held_stage (at s.records i).stage) (eqb (at s.records i).ticket t) (unended_stage (at s.records i).stage) (report (at s.records i))

@@ -30,44 +30,22 @@ abbrev pub alive : Record → ℕ
 alive r = one (unended_stage r.stage)
 
 queued_plain : (σ : Stage) → queued_stage σ ≡ true → (overrun_stage σ ≡ false) × (unended_stage σ ≡ true)
-queued_plain Empty e = no_true e
-queued_plain Queued e = (refl, refl)
-queued_plain (Reserved s) e = no_true e
-queued_plain (Running s) e = no_true e
-queued_plain (Ended s o) e = no_true e
+queued_plain σ e = grind arith
 
 reserved_plain : (σ : Stage) → reserved_stage σ ≡ true → (overrun_stage σ ≡ false) × (unended_stage σ ≡ true)
-reserved_plain Empty e = no_true e
-reserved_plain Queued e = no_true e
-reserved_plain (Reserved s) e = (refl, refl)
-reserved_plain (Running s) e = no_true e
-reserved_plain (Ended s o) e = no_true e
+reserved_plain σ e = grind arith
 
 running_plain : (σ : Stage) → running_stage σ ≡ true → (overrun_stage σ ≡ false) × (unended_stage σ ≡ true)
-running_plain Empty e = no_true e
-running_plain Queued e = no_true e
-running_plain (Reserved s) e = no_true e
-running_plain (Running s) e = (refl, refl)
-running_plain (Ended s o) e = no_true e
+running_plain σ e = grind arith
 
 pub fed_plain : (slot : ℕ) (told : Result Fed Refusal) (left : ℕ) → overrun_stage (fed_stage slot told left) ≡ false
-fed_plain slot (Ok (Flawed b d)) left = refl
-fed_plain slot (Ok (Wrote n)) left = cond_both (eqb left 0) (Running slot) (Reserved slot) (λ σ. overrun_stage σ ≡ false) (λ _. refl) (λ _. refl)
-fed_plain slot (Err why) left = refl
+fed_plain slot told left = grind arith
 
 one_tick : (σ : Stage) → one (waiting_stage σ) + one (running_stage σ) ≡ one (unended_stage σ)
-one_tick Empty = refl
-one_tick Queued = refl
-one_tick (Reserved s) = refl
-one_tick (Running s) = refl
-one_tick (Ended s o) = refl
+one_tick σ = grind arith
 
 pub same_outcome : (σ : Stage) → overrun (outcome_of σ) ≡ overrun_stage σ
-same_outcome Empty = refl
-same_outcome Queued = refl
-same_outcome (Reserved s) = refl
-same_outcome (Running s) = refl
-same_outcome (Ended s o) = refl
+same_outcome σ = grind arith
 
 -- settling counts nothing and ends nothing
 pub record Still (rs qs : List Record) : Type 0 where

@@ -31,10 +31,7 @@ since_given (Since.there e x) = omega (arith, since_given x)
 -- ---- unended, by the record
 
 unended_parts : (x y z w : Bool) → cond x false (cond y (cond z w false) false) ≡ true → (y ≡ true) × (z ≡ true) × (w ≡ true)
-unended_parts true y z w e = no_true e
-unended_parts false false z w e = no_true e
-unended_parts false true false w e = no_true e
-unended_parts false true true w e = (refl, refl, e)
+unended_parts x y z w e = grind arith
 
 module _ {l : Layout} {kd : Bool} {h : Trace} (s : State) (b : Base l kd h s) where
   pub unended_holder : (i t : ℕ) → unended s i t ≡ true → Holder s i t × (unended_stage (at s.records i).stage ≡ true)

@@ -28,53 +28,25 @@ stage_seen (Ended s o) = waits.Stage.ended
 
 -- the tests of a stage are those that the law of the waits makes
 pub seen_queued : (σ : Stage) → waits.queued_stage (stage_seen σ) ≡ queued_stage σ
-seen_queued Empty = refl
-seen_queued Queued = refl
-seen_queued (Reserved s) = refl
-seen_queued (Running s) = refl
-seen_queued (Ended s o) = refl
+seen_queued σ = grind arith
 
 pub seen_reserved : (σ : Stage) → waits.reserved_stage (stage_seen σ) ≡ reserved_stage σ
-seen_reserved Empty = refl
-seen_reserved Queued = refl
-seen_reserved (Reserved s) = refl
-seen_reserved (Running s) = refl
-seen_reserved (Ended s o) = refl
+seen_reserved σ = grind arith
 
 pub seen_running : (σ : Stage) → waits.running_stage (stage_seen σ) ≡ running_stage σ
-seen_running Empty = refl
-seen_running Queued = refl
-seen_running (Reserved s) = refl
-seen_running (Running s) = refl
-seen_running (Ended s o) = refl
+seen_running σ = grind arith
 
 pub seen_waiting : (σ : Stage) → waits.waiting_stage (stage_seen σ) ≡ waiting_stage σ
-seen_waiting Empty = refl
-seen_waiting Queued = refl
-seen_waiting (Reserved s) = refl
-seen_waiting (Running s) = refl
-seen_waiting (Ended s o) = refl
+seen_waiting σ = grind arith
 
 pub seen_unended : (σ : Stage) → waits.unended_stage (stage_seen σ) ≡ unended_stage σ
-seen_unended Empty = refl
-seen_unended Queued = refl
-seen_unended (Reserved s) = refl
-seen_unended (Running s) = refl
-seen_unended (Ended s o) = refl
+seen_unended σ = grind arith
 
 pub seen_held : (σ : Stage) → waits.held_stage (stage_seen σ) ≡ held_stage σ
-seen_held Empty = refl
-seen_held Queued = refl
-seen_held (Reserved s) = refl
-seen_held (Running s) = refl
-seen_held (Ended s o) = refl
+seen_held σ = grind arith
 
 pub seen_occupant : (σ : Stage) → waits.occupant_stage (stage_seen σ) ≡ occupant_stage σ
-seen_occupant Empty = refl
-seen_occupant Queued = refl
-seen_occupant (Reserved s) = refl
-seen_occupant (Running s) = refl
-seen_occupant (Ended s o) = refl
+seen_occupant σ = grind arith
 
 abbrev pub seen : Layout → ℕ → Record → waits.Rec
 seen l rate r = record {

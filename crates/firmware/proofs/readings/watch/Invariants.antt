@@ -4,6 +4,6 @@ use Rattle.firmware.proofs.Watching.{Watching}
 use Rattle.firmware.proofs.readings.watch.Given as goal
 
 -- the ticks that are left of the stay
-abbrev pub invariant-loop-n : goal.invariant-loop-n
-invariant-loop-n g l =
-    Watching (state g.P.Port l.initial.scheduler) l.claim (l.stay - l.n) (state g.P.Port l.scheduler)
+abbrev pub invariant-loop : goal.invariant-loop
+invariant-loop g l =
+    Watching (state g.P.Port l.initial.scheduler) l.asked.claim (l.end - l.counter) (state g.P.Port l.scheduler)
