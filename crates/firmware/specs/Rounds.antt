@@ -1,15 +1,8 @@
 -- What holds between two rounds of readings.
 use Rattle.std.specs.Prelude.{◌≡◌, ℕ, ◌<◌, List, length, slice_index_or}
 use Rattle.delays.specs.declared.table.Row.{Row}
-use Rattle.ports.specs.declared.port.Port as ports
-use Rattle.ports.specs.declared.renumbered.Renumbered.{Renumbered}
-use Rattle.ports.specs.Means.{renumbered_meaning}
 use Rattle.model.specs.States.{State}
 use Rattle.claims.specs.Awaits.{Run, stay_in}
-
--- what a port means under the layer
-abbrev pub layered : {P : Type 0} → ports.Ghosts P → ports.Ghosts (Renumbered P)
-layered port = record { interrupts = port.INTERRUPTIBLE; meaning = renumbered_meaning port.meaning }
 
 abbrev pub no_row : Row
 no_row = record { delay = 0; write = 0; stay = 0 }

@@ -11,9 +11,10 @@ use plan::plan::Plan;
 use plan::plan::read::read;
 use ports::answers::Refusal;
 use ports::delivered::Delivered;
-use ports::interruptible::Interruptible;
+use ports::interruptible::EverySlot;
+use ports::memory::Memory;
 use ports::slot_map::SlotMap;
-use ports::uninterruptible::Uninterruptible;
+use ports::uninterruptible::OneSlot;
 use rounds::serve;
 use told::Told;
 
@@ -27,12 +28,12 @@ fn refused(refusal: Refusal) -> anyhow::Error {
 }
 
 /// Two rounds of readings on a new port of a kind, on which a block may be flawed.
-fn demonstrate<D: Delivered + Drop>(rt: &HostRuntime, flaw: Option<u32>) -> anyhow::Result<()> {
+fn demonstrate<M: Memory + Drop>(rt: &HostRuntime, flaw: Option<u32>) -> anyhow::Result<()> {
     let mut plan = Plan::empty();
     read(PLAN, &mut plan).map_err(|fault| anyhow!("a bad plan: {}", fault.number()))?;
     let mut map = SlotMap::identity();
     map.exchange(0, 5).map_err(refused)?;
-    let mut port = D::new(5).map_err(refused)?;
+    let mut port = Delivered::<M>::new(5).map_err(refused)?;
     if let Some(block) = flaw {
         port.set_flaw(5, block).map_err(refused)?;
     }
@@ -46,11 +47,11 @@ fn demonstrate<D: Delivered + Drop>(rt: &HostRuntime, flaw: Option<u32>) -> anyh
 
 fn main(rt: HostRuntime) -> anyhow::Result<()> {
     println!(rt; "a port that can be interrupted")?;
-    demonstrate::<Interruptible>(&rt, None)?;
+    demonstrate::<EverySlot>(&rt, None)?;
     println!(rt; "with a flawed block")?;
-    demonstrate::<Interruptible>(&rt, Some(22))?;
+    demonstrate::<EverySlot>(&rt, Some(22))?;
     println!(rt; "a port that cannot be interrupted")?;
-    demonstrate::<Uninterruptible>(&rt, None)?;
+    demonstrate::<OneSlot>(&rt, None)?;
     println!(rt; "with a flawed block")?;
-    demonstrate::<Uninterruptible>(&rt, Some(22))
+    demonstrate::<OneSlot>(&rt, Some(22))
 }

@@ -3,7 +3,7 @@
 ghost use Rattle.std.specs.Prelude.{◌≡◌, IfOk};
 ghost use Rattle.engine.specs.State.{state};
 ghost use Rattle.firmware.specs.Readings.{GoesOn, Ready, Of};
-ghost use Rattle.firmware.specs.Rounds.{layered, stay_at, Serving};
+ghost use Rattle.firmware.specs.Rounds.{stay_at, Serving};
 
 use crate::readings::{Asked, Reading, complete};
 use claims::request_claim;
@@ -12,6 +12,7 @@ use engine::scheduler::Scheduler;
 use model::refusals::Refusal;
 use plan::plan::Plan;
 use ports::delivered::Delivered;
+use ports::memory::Memory;
 use ports::port::Port;
 use ports::renumbered::Renumbered;
 use ports::slot_map::SlotMap;
@@ -45,13 +46,13 @@ fn ask<P: Port>(
 }
 
 /// Each task asks for its accelerator, and then each claim is collected.
-fn round<D: Delivered + Drop>(
-    scheduler: &mut Scheduler<Renumbered<D>>,
+fn round<M: Memory + Drop>(
+    scheduler: &mut Scheduler<Renumbered<Delivered<M>>>,
     rows: &[Row; 32],
     accelerators: [u32; 3],
 ) -> [Reading; 3]
-    requires { Serving (state (layered D.Port) scheduler.old) rows.now }
-    ensures { Serving (state (layered D.Port) scheduler.new) rows.now }
+    requires { Serving (state ⟦<Renumbered<Delivered<M>> as Port>⟧ scheduler.old) rows.now }
+    ensures { Serving (state ⟦<Renumbered<Delivered<M>> as Port>⟧ scheduler.new) rows.now }
 {
     let [a, b, c] = accelerators;
     // tasks 1 and 2 share a slot: the one that waits for it can interrupt the writing for task 0
@@ -66,13 +67,13 @@ fn round<D: Delivered + Drop>(
 }
 
 /// A start and two rounds, with the stays of the delay table as the time to wait.
-pub fn serve<D: Delivered + Drop>(plan: Plan, port: D, map: SlotMap) -> [[Reading; 3]; 2] {
+pub fn serve<M: Memory + Drop>(
+    plan: Plan,
+    port: Delivered<M>,
+    map: SlotMap,
+) -> [[Reading; 3]; 2] {
     let port = Renumbered::new(port, map);
-    let mut rows = [Row {
-        delay: 0,
-        write: 0,
-        stay: 0,
-    }; 32];
+    let mut rows = [Row::default(); 32];
     // no plan has more accelerators than there are rows
     let _ = table(&plan, &port, &mut rows);
     let mut scheduler = Scheduler::start(plan, port, 1);
