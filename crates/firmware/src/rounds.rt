@@ -67,11 +67,7 @@ fn round<M: Memory + Drop>(
 }
 
 /// A start and two rounds, with the stays of the delay table as the time to wait.
-pub fn serve<M: Memory + Drop>(
-    plan: Plan,
-    port: Delivered<M>,
-    map: SlotMap,
-) -> [[Reading; 3]; 2] {
+pub fn serve<M: Memory + Drop>(plan: Plan, port: Delivered<M>, map: SlotMap) -> [[Reading; 3]; 2] {
     let port = Renumbered::new(port, map);
     let mut rows = [Row::default(); 32];
     // no plan has more accelerators than there are rows
