@@ -18,7 +18,7 @@ pub struct Progress {
     ghost flaw_fits: { block_of flaw ≤ 999999 },
 }
 
-/// No image and no flaw. It cannot be derived beside a ghost field.
+/// No image and no flaw. Beside a ghost field it cannot be derived, and `..` cannot stand in a literal.
 impl Default for Progress {
     ghost use Rattle.ports.specs.Calls.{fresh_entry};
     ghost use Rattle.ports.specs.Progresses.{progress_entry};

@@ -11,7 +11,7 @@ use crate::slot::Slot;
 pub struct Stored {
     pub image: u32,
     pub size: u32,
-    /// All blocks of the image are written.
+    /// All blocks of the image are written; how many are of one that is not whole, `Begun` has.
     pub whole: bool,
     pub flaw: Option<u32>,
     ghost image_fits: { image ≤ 31 },
