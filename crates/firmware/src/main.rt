@@ -44,13 +44,15 @@ fn demonstrate<D: Delivered + Drop>(rt: &HostRuntime, flaw: Option<u32>) -> anyh
     Ok(())
 }
 
+/// Both on a sound port and on one with a flawed block.
+fn show<D: Delivered + Drop>(rt: &HostRuntime, name: &str) -> anyhow::Result<()> {
+    println!(rt; "{name}")?;
+    demonstrate::<D>(rt, None)?;
+    println!(rt; "with a flawed block")?;
+    demonstrate::<D>(rt, Some(22))
+}
+
 fn main(rt: HostRuntime) -> anyhow::Result<()> {
-    println!(rt; "a port that can be interrupted")?;
-    demonstrate::<Interruptible>(&rt, None)?;
-    println!(rt; "with a flawed block")?;
-    demonstrate::<Interruptible>(&rt, Some(22))?;
-    println!(rt; "a port that cannot be interrupted")?;
-    demonstrate::<Uninterruptible>(&rt, None)?;
-    println!(rt; "with a flawed block")?;
-    demonstrate::<Uninterruptible>(&rt, Some(22))
+    show::<Interruptible>(&rt, "a port that can be interrupted")?;
+    show::<Uninterruptible>(&rt, "a port that cannot be interrupted")
 }
