@@ -10,22 +10,16 @@ use Rattle.model.specs.declared.refusals.Refusal.{Refusal}
 use Rattle.model.specs.States.{State, start}
 use Rattle.model.specs.Laws.{Opened}
 use Rattle.model.proofs.Reaches.{start_rate}
-use Rattle.claims.specs.declared.Claim.{Claim}
-use Rattle.claims.specs.Claims.{Names}
-use Rattle.claims.specs.Awaits.{stay_in, Awaited, Onward, Handed}
+use Rattle.claims.specs.Awaits.{stay_in, Onward}
 use Rattle.firmware.specs.declared.readings.Asked.{Asked}
 use Rattle.firmware.specs.Readings.{GoesOn, Ready, Of, Collected, CollectedIf}
-use Rattle.firmware.specs.Rounds.{no_row, stay_at, Serving}
+use Rattle.firmware.specs.Rounds.{no_row, Serving}
 
 pub serving_on : {s s' : State} {rows : List Row} → Serving s rows → Onward s s' → Serving s' rows
 serving_on v o = record {
   run = o.run;
   stays = λ a known. o.stays a ∙ v.stays a (subst (λ (l : Layout). a < length l.accelerators) o.layout known);
 }
-
--- a claim that is handed over is ready within the stay of its accelerator
-pub ready : {s : State} {rows : List Row} (task a stay : ℕ) (c : Claim) → Serving s rows → Names task c → Handed s a c → stay ≡ stay_at rows a → Ready s (record { task = task; claim = c; stay = stay })
-ready {s} task a stay c v named handed e = record { names = named; awaited = subst (Awaited s c) (v.stays a handed.known ∙ sym e) handed.awaited }
 
 -- a request stays ready while other tasks ask
 pub ready_on : {s s' : State} (r : Result Asked Refusal) → GoesOn s s' → IfOk r (Ready s) → IfOk r (Ready s')

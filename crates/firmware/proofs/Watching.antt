@@ -19,9 +19,6 @@ use Rattle.firmware.specs.Readings.{ended_in, GoesOn, Watched, Collected}
 pub onward_then : {s s₁ s₂ : State} → Onward s s₁ → Onward s₁ s₂ → Onward s s₂
 onward_then a b = record { run = b.run; layout = b.layout ∙ a.layout; stays = λ x. b.stays x ∙ a.stays x }
 
-pub goes_none : {s : State} → GoesOn s s
-goes_none = record { keeps = λ c n _ w. w; goes_on = λ r. record { run = r; layout = refl; stays = λ a. refl } }
-
 pub goes_then : {s s₁ s₂ : State} → GoesOn s s₁ → GoesOn s₁ s₂ → GoesOn s s₂
 goes_then a b = record {
   keeps = λ c n x w. b.keeps c n x (a.keeps c n x w);

@@ -45,13 +45,15 @@ fn demonstrate<M: Memory + Drop>(rt: &HostRuntime, flaw: Option<u32>) -> anyhow:
     Ok(())
 }
 
+/// Both on a sound port and on one with a flawed block.
+fn show<M: Memory + Drop>(rt: &HostRuntime, name: &str) -> anyhow::Result<()> {
+    println!(rt; "{name}")?;
+    demonstrate::<M>(rt, None)?;
+    println!(rt; "with a flawed block")?;
+    demonstrate::<M>(rt, Some(22))
+}
+
 fn main(rt: HostRuntime) -> anyhow::Result<()> {
-    println!(rt; "a port that can be interrupted")?;
-    demonstrate::<EverySlot>(&rt, None)?;
-    println!(rt; "with a flawed block")?;
-    demonstrate::<EverySlot>(&rt, Some(22))?;
-    println!(rt; "a port that cannot be interrupted")?;
-    demonstrate::<OneSlot>(&rt, None)?;
-    println!(rt; "with a flawed block")?;
-    demonstrate::<OneSlot>(&rt, Some(22))
+    show::<EverySlot>(&rt, "a port that can be interrupted")?;
+    show::<OneSlot>(&rt, "a port that cannot be interrupted")
 }

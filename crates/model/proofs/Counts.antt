@@ -1,7 +1,6 @@
 -- Counts that stop: a held record that has room counts each tick of its own.
-use Rattle.std.proofs.Common.{◌≡◌, ℕ, ◌+◌, ◌<◌, true, cond, refl, ap, ◌∙◌, arith}
+use Rattle.std.proofs.Common.{◌≡◌, ℕ, ◌+◌, ◌<◌, true, cond, ap, ◌∙◌, arith}
 use Rattle.model.specs.declared.requests.Stage.{Stage}
-use Rattle.model.specs.declared.requests.Stage.TheVariants.{Empty, Queued, Reserved, Running, Ended}
 use Rattle.model.specs.declared.requests.Record.{Record}
 use Rattle.model.specs.Records.{one, up, held_stage, waiting_stage, running_stage, aged}
 use Rattle.model.specs.Stops.{Roomy}

@@ -1,10 +1,9 @@
 -- Moves that leave each record with its ticket and its accelerator, and held if it was.
-use Rattle.std.proofs.Common.{◌≡◌, ℕ, ◌<◌, true, eqb, List, map, length, set, Some, None, Ok, Err, Option, Result, sym, refl, ◌∙◌, subst, arith}
+use Rattle.std.proofs.Common.{◌≡◌, ℕ, ◌<◌, true, List, map, length, set, Some, None, Option, Result, sym, refl, ◌∙◌, subst, arith}
 use Rattle.std.proofs.lemmas.List.{get_or-map, length-map, length-set}
 use Rattle.std.proofs.lemmas.Bool.{and_parts, cond_both}
 use Rattle.ports.specs.declared.answers.Refusal.{Refusal}
 use Rattle.ports.specs.declared.answers.Fed.{Fed}
-use Rattle.ports.specs.declared.answers.Fed.TheVariants.{Wrote, Flawed}
 use Rattle.ports.specs.Calls.{feed_answer, feed_after}
 use Rattle.model.specs.declared.requests.Stage.{Stage}
 use Rattle.model.specs.declared.requests.Stage.TheVariants.{Empty, Queued, Reserved, Running, Ended}

@@ -5,7 +5,6 @@ use Rattle.plan.specs.Rules.{Layout}
 use Rattle.delays.specs.Delays.{delay}
 use Rattle.model.specs.declared.requests.Outcome.TheVariants.{Finished}
 use Rattle.model.specs.declared.requests.Stage.{Stage}
-use Rattle.model.specs.declared.requests.Stage.TheVariants.{Empty, Queued, Reserved, Running, Ended}
 use Rattle.model.specs.declared.requests.Report.{Report}
 use Rattle.model.specs.declared.calls.Call.{Call}
 use Rattle.model.specs.declared.calls.Call.TheVariants.{Tick, Done, StageOf}
@@ -17,7 +16,6 @@ use Rattle.model.specs.Moves.{settle, finish, ready}
 use Rattle.model.specs.Calls.{enter, tick_after, tick_answer, answer, after}
 use Rattle.model.specs.Runs.{Trace, Reached}
 use Rattle.model.specs.Promises.{holds, Since, Told, ticking, ticks, Counts, overrun, overrun_stage, recorded, reported, Counted, Timed, Sound}
-use Rattle.model.proofs.Stages.{no_true}
 use Rattle.model.proofs.Ways.{Way, then, framed, way_settle}
 use Rattle.model.proofs.Sames.{same_refl, same_way, same_tick, framed_tick}
 use Rattle.model.proofs.Happens.{Happened}

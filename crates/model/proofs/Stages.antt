@@ -1,8 +1,8 @@
 -- What the tests of a stage say of one another.
-use Rattle.std.proofs.Common.{◌≡◌, ℕ, true, false, sym, refl, ap, arith}
+use Rattle.std.proofs.Common.{◌≡◌, ℕ, true, false, refl, ap, arith}
 use Rattle.std.proofs.lemmas.Bool.{both_ways}
 use Rattle.model.specs.declared.requests.Stage.{Stage}
-use Rattle.model.specs.declared.requests.Stage.TheVariants.{Empty, Queued, Reserved, Running, Ended}
+use Rattle.model.specs.declared.requests.Stage.TheVariants.{Reserved}
 use Rattle.model.specs.Records.{queued_stage, reserved_stage, running_stage, held_stage, occupant_stage, unended_stage, slot_of}
 use Rattle.model.specs.Grants.{slotted_stage}
 

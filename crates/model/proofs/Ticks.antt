@@ -1,14 +1,13 @@
 -- A tick adds one to the counts of each unended request, and nothing else adds to them.
-use Rattle.std.proofs.Common.{◌≡◌, ℕ, ◌+◌, ◌<◌, true, false, eqb, List, map, length, Some, None, Ok, Err, Option, Result, sym, refl, ap, ◌∙◌, subst, arith}
+use Rattle.std.proofs.Common.{◌≡◌, ℕ, ◌+◌, ◌<◌, true, false, eqb, List, map, length, Some, None, Option, Result, sym, refl, ap, ◌∙◌, subst, arith}
 use Rattle.std.proofs.lemmas.List.{get_or-map, length-map, length-set}
-use Rattle.std.proofs.lemmas.Bool.{and_parts, cond_both}
+use Rattle.std.proofs.lemmas.Bool.{and_parts}
 use Rattle.ports.specs.declared.answers.Refusal.{Refusal}
 use Rattle.ports.specs.declared.answers.Fed.{Fed}
-use Rattle.ports.specs.declared.answers.Fed.TheVariants.{Wrote, Flawed}
 use Rattle.ports.specs.Calls.{feed_answer, feed_after}
 use Rattle.model.specs.declared.requests.Outcome.TheVariants.{Finished, Overrun}
 use Rattle.model.specs.declared.requests.Stage.{Stage}
-use Rattle.model.specs.declared.requests.Stage.TheVariants.{Empty, Queued, Reserved, Running, Ended}
+use Rattle.model.specs.declared.requests.Stage.TheVariants.{Reserved, Ended}
 use Rattle.model.specs.declared.requests.Record.{Record}
 use Rattle.model.specs.Records.{blank, at, one, held_stage, queued_stage, reserved_stage, running_stage, unended_stage, waiting_stage, slot_of, outcome_of, staged, aged, fed_record}
 use Rattle.model.specs.States.{State, part}
@@ -19,7 +18,7 @@ use Rattle.model.proofs.Tables.{at_set}
 use Rattle.model.proofs.Ways.{Grants, framed, keeps_settle, keeps_expire, way_expire, rows_on}
 use Rattle.model.proofs.Sames.{Choice, chosen, freed_records, midway, framed_midway}
 use Rattle.model.specs.Stops.{Roomy}
-use Rattle.model.proofs.Stages.{no_true, reserved_held}
+use Rattle.model.proofs.Stages.{reserved_held}
 use Rattle.model.proofs.Counts.{counted, aged_counted, up_is}
 
 -- the ticks that a record counts, and 1 while it is unended
