@@ -3,7 +3,7 @@ use Rattle.std.proofs.Common.{◌≡◌, ℕ, zero, suc, ◌+◌, ◌-◌, ◌<�
 use Rattle.std.specs.Result.{MatchResult, IsErrAnd}
 use Rattle.std.proofs.lemmas.Result.{err_from_is_err_and}
 use Rattle.text.specs.Results.{and_then, onto}
-use Rattle.text.proofs.Fields.{onto_nil, onto_onto, onto_none}
+use Rattle.text.proofs.Fields.{onto_onto, onto_none}
 use Rattle.plan.specs.declared.faults.Fault.{Fault}
 use Rattle.plan.specs.declared.faults.Fault.TheVariants.{Line}
 use Rattle.plan.specs.declared.faults.Flaw.{Flaw}
@@ -14,11 +14,6 @@ module _ {A S : Type 0} (one : S → ℕ → Result (A × ℕ) Flaw) (after : S 
   pub record Sofar (xs : List A) (here : ℕ) (s : S) (n : ℕ) : Type 0 where
     pub size : line + length xs ≡ here
     pub rest : items_at one after count line s₀ start ≡ onto xs (items_at one after (count - length xs) here s n)
-
-  pub begun : Sofar [] line s₀ start
-  begun =
-      let same : count - 0 ≡ count = omega arith in
-      record { size = omega arith; rest = onto_nil (items_at one after count line s₀ start) ∙ ap (λ j. onto [] (items_at one after j line s₀ start)) (sym same) }
 
   module _ {xs : List A} {here : ℕ} {s : S} {n : ℕ} (so : Sofar xs here s n) where
     module _ (left : length xs < count) where

@@ -6,10 +6,6 @@ use Rattle.text.specs.Numbers.{malformed}
 use Rattle.text.specs.Results.{and_then, onto}
 use Rattle.text.specs.Lines.{letter_at, with_byte, spaced, fields_at, line_at}
 
-pub onto_nil : {A E : Type 0} (r : Result (List A × ℕ) E) → r ≡ onto [] r
-onto_nil (Ok y) = refl
-onto_nil (Err e) = refl
-
 -- items after items after items
 pub onto_onto : {A E : Type 0} (xs ys : List A) (r : Result (List A × ℕ) E) → onto xs (onto ys r) ≡ onto (xs ++ ys) r
 onto_onto xs ys (Ok y) = ap (λ l. Ok (l, y.1)) (sym (append_assoc xs ys y.0))
@@ -27,14 +23,11 @@ module _ (t : List ℕ) (k : ℕ) where
   pub fields_more : (j count n v m : ℕ) → j ≡ suc count → spaced t k n ≡ Ok (v, m) → fields_at t k j n ≡ onto (v ∷ []) (fields_at t k count m)
   fields_more j count n v m s e = rw s (ap (λ r. and_then r (λ x. onto (x.0 ∷ []) (fields_at t k count x.1))) e)
 
-  pub fields_flaw : (j count n : ℕ) (f : Malformed) → j ≡ suc count → spaced t k n ≡ Err f → fields_at t k j n ≡ Err f
-  fields_flaw j count n f s e = rw s (ap (λ r. and_then r (λ x. onto (x.0 ∷ []) (fields_at t k count x.1))) e)
-
   pub fields_none : (j n : ℕ) → j ≡ 0 → fields_at t k j n ≡ Ok ([], n)
   fields_none j n s = rw s
 
 -- the line at n, once its letter and the answer of its numbers are known
-pub line_on : (t : List ℕ) (k count n c : ℕ) (r : Result (List ℕ × ℕ) Malformed) → letter_at t n ≡ Ok c → fields_at t k count (n + 1) ≡ r → line_at t k count n ≡ and_then r (λ x. with_byte t 10 x.1 (Ok (c, x.0, x.1 + 1)))
+line_on : (t : List ℕ) (k count n c : ℕ) (r : Result (List ℕ × ℕ) Malformed) → letter_at t n ≡ Ok c → fields_at t k count (n + 1) ≡ r → line_at t k count n ≡ and_then r (λ x. with_byte t 10 x.1 (Ok (c, x.0, x.1 + 1)))
 line_on t k count n c r e f =
     ap (λ o. and_then o (λ c. and_then (fields_at t k count (n + 1)) (λ x. with_byte t 10 x.1 (Ok (c, x.0, x.1 + 1))))) e
     ∙ ap (λ o. and_then o (λ x. with_byte t 10 x.1 (Ok (c, x.0, x.1 + 1)))) f
