@@ -6,10 +6,8 @@ mod readings;
 mod rounds;
 mod told;
 
-use anyhow::anyhow;
 use plan::plan::Plan;
 use plan::plan::read::read;
-use ports::answers::Refusal;
 use ports::delivered::Delivered;
 use ports::interruptible::EverySlot;
 use ports::memory::Memory;
@@ -22,20 +20,15 @@ use told::Told;
 const PLAN: &[u8] =
     b"c 100 2 4 3\np 40 1 40\np 20 1 20\na 0 0 40 4\na 0 0 30 5\na 1 1 20 4\na 1 2 10 6\n";
 
-/// A port or a map is refused.
-fn refused(refusal: Refusal) -> anyhow::Error {
-    anyhow!("a bad port: {}", refusal.number())
-}
-
 /// Two rounds of readings on a new port of a kind, on which a block may be flawed.
 fn demonstrate<M: Memory + Drop>(rt: &HostRuntime, flaw: Option<u32>) -> anyhow::Result<()> {
     let mut plan = Plan::empty();
-    read(PLAN, &mut plan).map_err(|fault| anyhow!("a bad plan: {}", fault.number()))?;
+    read(PLAN, &mut plan)?;
     let mut map = SlotMap::identity();
-    map.exchange(0, 5).map_err(refused)?;
-    let mut port = Delivered::<M>::new(5).map_err(refused)?;
+    map.exchange(0, 5)?;
+    let mut port = Delivered::<M>::new(5)?;
     if let Some(block) = flaw {
-        port.set_flaw(5, block).map_err(refused)?;
+        port.set_flaw(5, block)?;
     }
     for round in serve(plan, port, map) {
         for (task, &reading) in round.iter().enumerate() {

@@ -1,5 +1,5 @@
 -- What each fault tells: its number, its layer, its line and its field.
-use Rattle.std.specs.Prelude.{ℕ, List, codes}
+use Rattle.std.specs.Prelude.{ℕ, List, ◌∷◌, ◌++◌, decimal, codes}
 use Rattle.plan.specs.declared.faults.Rule.{Rule}
 use Rattle.plan.specs.declared.faults.Rule.TheVariants.{PartitionBlocks, FabricBlocks, SlotCount, SlotSize}
 use Rattle.plan.specs.declared.faults.Flaw.{Flaw}
@@ -58,3 +58,7 @@ abbrev pub fault_field : Fault → ℕ
 fault_field Length = 0
 fault_field (Line line flaw) = flaw_field flaw
 fault_field (Rest line) = 0
+
+-- how a fault is printed: `plan`, its number, its line and its field
+abbrev pub fault_text : Fault → List ℕ
+fault_text f = codes "plan " ++ (decimal (fault_number f) ++ (32 ∷ decimal (fault_line f) ++ (32 ∷ decimal (fault_field f))))

@@ -2,13 +2,14 @@
 
 ghost use Rattle.std.specs.Prelude.{◌≡◌, Some};
 ghost use Rattle.plan.specs.declared.faults.Flaw.TheVariants.{Form};
-ghost use Rattle.plan.specs.Faults.{fault_number, fault_layer, fault_line, fault_field, layer_name};
+ghost use Rattle.plan.specs.Faults.{fault_number, fault_layer, fault_line, fault_field, fault_text, layer_name};
 
+use std::error::Error;
 use std::fmt;
 use text::numbers::Malformed;
 
 /// A rule that a line breaks.
-#[derive(Clone, Copy)]
+#[derive(Clone, Copy, Debug)]
 pub enum Rule {
     /// Slots times size is at most the partition's blocks.
     PartitionBlocks,
@@ -21,7 +22,7 @@ pub enum Rule {
 }
 
 /// What is wrong with a line: its form, the field at a place from 1, or a rule that it breaks.
-#[derive(Clone, Copy)]
+#[derive(Clone, Copy, Debug)]
 pub enum Flaw {
     Form,
     Range(u32),
@@ -29,7 +30,7 @@ pub enum Flaw {
 }
 
 /// What is wrong with a text: its length, a line, or bytes that stand on a line after the last.
-#[derive(Clone, Copy)]
+#[derive(Clone, Copy, Debug)]
 pub enum Fault {
     Length,
     Line(u32, Flaw),
@@ -65,6 +66,16 @@ impl From<Malformed> for Flaw {
         Flaw::Form
     }
 }
+
+impl fmt::Display for Fault {
+    ghost output = { λ fault. Some (fault_text fault) };
+
+    fn fmt<W: fmt::Write>(&self, f: &mut fmt::Formatter<W>) -> fmt::Result {
+        write!(f, "plan {} {} {}", self.number(), self.line(), self.field())
+    }
+}
+
+impl Error for Fault {}
 
 impl Fault {
     /// The number of the refusal, 1 to 8.

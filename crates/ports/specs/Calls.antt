@@ -1,5 +1,5 @@
 -- What each call of a port answers, and the meaning that it leaves.
-use Rattle.std.specs.Prelude.{ℕ, zero, suc, ◌+◌, ◌-◌, min, Bool, false, cond, not, ◌&&◌, ◌||◌, List, map, Some, None, Ok, Err, Option, Result, ◌==◌, nat_le, nat_lt, slice_index_or, slice_set}
+use Rattle.std.specs.Prelude.{ℕ, zero, suc, ◌+◌, ◌-◌, min, Bool, false, cond, not, ◌&&◌, ◌||◌, List, map, Some, None, Ok, Err, Option, Result, ◌==◌, nat_le, nat_lt, slice_index_or, slice_set, ◌++◌, decimal, codes}
 use Rattle.std.specs.List.{range_with_len}
 use Rattle.ports.specs.declared.answers.Refusal.{Refusal}
 use Rattle.ports.specs.declared.answers.Refusal.TheVariants.{BadRate, BadFlaw, BadMap, NoSuchSlot, BadImage, NothingLeft, OtherHalfWritten}
@@ -16,6 +16,10 @@ refusal_number NoSuchSlot = 53
 refusal_number BadImage = 54
 refusal_number NothingLeft = 55
 refusal_number OtherHalfWritten = 56
+
+-- how a refusal is printed: `no` and its number
+abbrev pub refusal_text : Refusal → List ℕ
+refusal_text r = codes "no " ++ decimal (refusal_number r)
 
 -- the answer of a call: why it is refused, if it is, and else a
 abbrev pub judged : {A : Type 0} → Option Refusal → A → Result A Refusal

@@ -1,7 +1,10 @@
 //! What the calls of a port answer.
 
-ghost use Rattle.std.specs.Prelude.{◌≡◌};
-ghost use Rattle.ports.specs.Calls.{refusal_number};
+ghost use Rattle.std.specs.Prelude.{◌≡◌, Some};
+ghost use Rattle.ports.specs.Calls.{refusal_number, refusal_text};
+
+use std::error::Error;
+use std::fmt;
 
 /// Why a call is refused.
 #[derive(Clone, Copy, PartialEq, Eq, Debug)]
@@ -38,6 +41,16 @@ impl Refusal {
         }
     }
 }
+
+impl fmt::Display for Refusal {
+    ghost output = { λ refusal. Some (refusal_text refusal) };
+
+    fn fmt<W: fmt::Write>(&self, f: &mut fmt::Formatter<W>) -> fmt::Result {
+        write!(f, "no {}", self.number())
+    }
+}
+
+impl Error for Refusal {}
 
 /// What a feed did: it wrote so many blocks, or it met a flawed block on a board.
 #[derive(Clone, Copy, PartialEq, Eq, Debug)]

@@ -1,6 +1,6 @@
 //! Long runs of calls by chance.
 
-use crate::{plan_of, refused};
+use crate::plan_of;
 use engine::scheduler::Scheduler;
 use model::calls::{Answer, Call};
 use model::refusals::Refusal;
@@ -98,10 +98,10 @@ fn run_long<P: Port + Drop>(rt: &HostRuntime, port: P, turns: u32) -> anyhow::Re
 /// Two layers piled on a port of each kind.
 pub fn run_over_layers(rt: &HostRuntime) -> anyhow::Result<()> {
     let mut map = SlotMap::identity();
-    map.exchange(0, 3).map_err(refused)?;
-    map.exchange(1, 30).map_err(refused)?;
-    let port = Interruptible::new(2).map_err(refused)?;
+    map.exchange(0, 3)?;
+    map.exchange(1, 30)?;
+    let port = Interruptible::new(2)?;
     run_long(rt, Renumbered::new(Renumbered::new(port, map), map), 20_000)?;
-    let port = Uninterruptible::new(2).map_err(refused)?;
+    let port = Uninterruptible::new(2)?;
     run_long(rt, Renumbered::new(Renumbered::new(port, map), map), 20_000)
 }

@@ -6,13 +6,11 @@ mod cases;
 mod long;
 mod told;
 
-use anyhow::anyhow;
 use cases::{CONTEST, Case, LAST_TICKET, LAST_TICKS};
 use engine::scheduler::Scheduler;
 use long::run_over_layers;
 use plan::plan::Plan;
 use plan::plan::read::read;
-use ports::answers::Refusal;
 use ports::interruptible::Interruptible;
 use ports::port::Port;
 use ports::uninterruptible::Uninterruptible;
@@ -21,13 +19,8 @@ use told::Told;
 /// The plan that a text says.
 fn plan_of(text: &[u8]) -> anyhow::Result<Plan> {
     let mut plan = Plan::empty();
-    read(text, &mut plan).map_err(|fault| anyhow!("a bad plan: {}", fault.number()))?;
+    read(text, &mut plan)?;
     Ok(plan)
-}
-
-/// A port or a map is refused.
-fn refused(refusal: Refusal) -> anyhow::Error {
-    anyhow!("a bad port: {}", refusal.number())
 }
 
 /// Makes the calls and prints their answers.
@@ -42,9 +35,9 @@ fn run<P: Port + Drop>(rt: &HostRuntime, case: &Case, port: P) -> anyhow::Result
 /// The calls on a port of each kind that writes 10 blocks a tick.
 fn run_on_both(rt: &HostRuntime, case: &Case) -> anyhow::Result<()> {
     println!(rt; "on a port that can be interrupted")?;
-    run(rt, case, Interruptible::new(10).map_err(refused)?)?;
+    run(rt, case, Interruptible::new(10)?)?;
     println!(rt; "on a port that cannot")?;
-    run(rt, case, Uninterruptible::new(10).map_err(refused)?)
+    run(rt, case, Uninterruptible::new(10)?)
 }
 
 fn main(rt: HostRuntime) -> anyhow::Result<()> {
