@@ -32,6 +32,7 @@ fn report_done<P: Port>(scheduler: &mut Scheduler<P>)
     ensures { GoesOn (state P.Port scheduler.old) (state P.Port scheduler.new) }
 {
     if let Ok(Stage::Running { slot }) = scheduler.stage(2) {
+        // never refused: the request runs there
         let _ = scheduler.done(slot);
     }
 }
