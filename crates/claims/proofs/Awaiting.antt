@@ -13,7 +13,8 @@ use Rattle.model.specs.declared.calls.Answer.{Answer}
 use Rattle.model.specs.declared.calls.Answer.TheVariants.{Ticket, Ticked, Completed, Collected, Stands}
 use Rattle.model.specs.Records.{one}
 use Rattle.model.specs.States.{State}
-use Rattle.model.specs.Calls.{judged, collect_answer}
+use Rattle.ports.specs.Calls.{judged}
+use Rattle.model.specs.Calls.{collect_answer}
 use Rattle.model.specs.Runs.{Event, Trace}
 use Rattle.model.specs.Promises.{collectable, too_early, holds, unended, names, collects, given, collected, Since, Told, ticks, Counts, Counted, Sound}
 use Rattle.model.specs.Laws.{Performed}

@@ -14,7 +14,8 @@ use Rattle.model.specs.Records.{at, held_stage, unended_stage, on_found}
 use Rattle.model.specs.Lowests.{Lowest, Found}
 use Rattle.model.specs.States.{State}
 use Rattle.model.specs.Moves.{runs_in, settle, finish}
-use Rattle.model.specs.Calls.{judged, unless, why_request, enter, tick_answer, tick_after, running_in, why_done, why_collect, report, empty, why_stage, answer, after}
+use Rattle.ports.specs.Calls.{judged, unless}
+use Rattle.model.specs.Calls.{why_request, enter, tick_answer, tick_after, running_in, why_done, why_collect, report, empty, why_stage, answer, after}
 use Rattle.model.specs.Promises.{ticking}
 use Rattle.model.proofs.Lowests.{found}
 

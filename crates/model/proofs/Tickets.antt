@@ -12,7 +12,8 @@ use Rattle.model.specs.declared.calls.Call.TheVariants.{Request, Collect}
 use Rattle.model.specs.declared.calls.Answer.TheVariants.{Ticket, Collected}
 use Rattle.model.specs.Records.{blank, at, held_stage, unended_stage, one, new}
 use Rattle.model.specs.States.{State}
-use Rattle.model.specs.Calls.{judged, report}
+use Rattle.ports.specs.Calls.{judged}
+use Rattle.model.specs.Calls.{report}
 use Rattle.model.specs.Runs.{Event, Trace}
 use Rattle.model.specs.Promises.{too_early, collectable, holds, unended, gives, collects, given, collected, Since, Told}
 use Rattle.model.proofs.Stages.{no_true}

@@ -1,6 +1,7 @@
 -- What each call answers and leaves.
-use Rattle.std.specs.Prelude.{ℕ, ◌+◌, cond, not, length, Some, None, Ok, Err, count_by, Option, Result, ◌==◌, nat_le, nat_lt, slice_set}
+use Rattle.std.specs.Prelude.{ℕ, ◌+◌, cond, not, length, Some, None, Ok, count_by, Option, Result, ◌==◌, nat_le, nat_lt, slice_set}
 use Rattle.plan.specs.Slots.{slot_count}
+use Rattle.ports.specs.Calls.{judged, unless}
 use Rattle.delays.specs.Delays.{accelerator_at}
 use Rattle.model.specs.declared.requests.Outcome.TheVariants.{Finished}
 use Rattle.model.specs.declared.requests.Record.{Record}
@@ -14,16 +15,6 @@ use Rattle.model.specs.declared.calls.Answer.TheVariants.{Ticket, Ticked, Comple
 use Rattle.model.specs.Records.{blank, at, held_stage, unended_stage, ended_stage, slot_of, outcome_of, one, new, lowest, on_found}
 use Rattle.model.specs.States.{State}
 use Rattle.model.specs.Moves.{expired, runs_in, settle, choose, stage_fed, finish, advance, ready}
-
--- the answer of a call, of which the first part says why it is refused, if it is
-abbrev pub judged : Option Refusal → Answer → Result Answer Refusal
-judged (Some r) a = Err r
-judged None a = Ok a
-
--- what a call leaves of s: the new state, or s itself where the call is refused
-abbrev pub unless : Option Refusal → State → State → State
-unless (Some r) s s' = s
-unless None s s' = s'
 
 -- request
 abbrev pub why_request : State → ℕ → ℕ → Option Refusal

@@ -22,12 +22,12 @@ abbrev pub refusal_text : Refusal → List ℕ
 refusal_text r = codes "no " ++ decimal (refusal_number r)
 
 -- the answer of a call: why it is refused, if it is, and else a
-abbrev pub judged : {A : Type 0} → Option Refusal → A → Result A Refusal
+abbrev pub judged : {A E : Type 0} → Option E → A → Result A E
 judged (Some r) a = Err r
 judged None a = Ok a
 
 -- what a call leaves: m itself where the call is refused, and else n
-abbrev pub unless : {A : Type 0} → Option Refusal → A → A → A
+abbrev pub unless : {A E : Type 0} → Option E → A → A → A
 unless (Some r) m n = m
 unless None m n = n
 
