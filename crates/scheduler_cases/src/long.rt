@@ -4,11 +4,11 @@ use crate::plan_of;
 use engine::scheduler::Scheduler;
 use model::calls::{Answer, Call};
 use model::refusals::Refusal;
-use ports::interruptible::Interruptible;
+use ports::delivered::Delivered;
+use ports::memory::Memory;
 use ports::port::Port;
 use ports::renumbered::Renumbered;
 use ports::slot_map::SlotMap;
-use ports::uninterruptible::Uninterruptible;
 
 /// Four slots, four tasks.
 const FOUR_SLOTS: &[u8] =
@@ -95,13 +95,11 @@ fn run_long<P: Port + Drop>(rt: &HostRuntime, port: P, turns: u32) -> anyhow::Re
     Ok(())
 }
 
-/// Two layers piled on a port of each kind.
-pub fn run_over_layers(rt: &HostRuntime) -> anyhow::Result<()> {
+/// A long run over two layers that are piled on a port of a kind.
+pub fn run_over_layers<M: Memory + Drop>(rt: &HostRuntime) -> anyhow::Result<()> {
     let mut map = SlotMap::identity();
     map.exchange(0, 3)?;
     map.exchange(1, 30)?;
-    let port = Interruptible::new(2)?;
-    run_long(rt, Renumbered::new(Renumbered::new(port, map), map), 20_000)?;
-    let port = Uninterruptible::new(2)?;
+    let port = Delivered::<M>::new(2)?;
     run_long(rt, Renumbered::new(Renumbered::new(port, map), map), 20_000)
 }

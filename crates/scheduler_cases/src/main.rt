@@ -11,9 +11,10 @@ use engine::scheduler::Scheduler;
 use long::run_over_layers;
 use plan::plan::Plan;
 use plan::plan::read::read;
-use ports::interruptible::Interruptible;
-use ports::port::Port;
-use ports::uninterruptible::Uninterruptible;
+use ports::delivered::Delivered;
+use ports::interruptible::EverySlot;
+use ports::memory::Memory;
+use ports::uninterruptible::OneSlot;
 use told::Told;
 
 /// The plan that a text says.
@@ -23,8 +24,10 @@ fn plan_of(text: &[u8]) -> anyhow::Result<Plan> {
     Ok(plan)
 }
 
-/// Makes the calls and prints their answers.
-fn run<P: Port + Drop>(rt: &HostRuntime, case: &Case, port: P) -> anyhow::Result<()> {
+/// Makes the calls on a port of a kind that writes 10 blocks a tick, and prints their answers.
+fn run<M: Memory + Drop>(rt: &HostRuntime, name: &str, case: &Case) -> anyhow::Result<()> {
+    println!(rt; "{name}")?;
+    let port = Delivered::<M>::new(10)?;
     let mut scheduler = Scheduler::start(plan_of(case.plan)?, port, case.first);
     for &call in case.calls {
         println!(rt; "{}", Told(scheduler.perform(call)))?;
@@ -32,17 +35,11 @@ fn run<P: Port + Drop>(rt: &HostRuntime, case: &Case, port: P) -> anyhow::Result
     Ok(())
 }
 
-/// The calls on a port of each kind that writes 10 blocks a tick.
-fn run_on_both(rt: &HostRuntime, case: &Case) -> anyhow::Result<()> {
-    println!(rt; "on a port that can be interrupted")?;
-    run(rt, case, Interruptible::new(10)?)?;
-    println!(rt; "on a port that cannot")?;
-    run(rt, case, Uninterruptible::new(10)?)
-}
-
 fn main(rt: HostRuntime) -> anyhow::Result<()> {
     for case in [CONTEST, LAST_TICKS, LAST_TICKET] {
-        run_on_both(&rt, &case)?;
+        run::<EverySlot>(&rt, "on a port that can be interrupted", &case)?;
+        run::<OneSlot>(&rt, "on a port that cannot", &case)?;
     }
-    run_over_layers(&rt)
+    run_over_layers::<EverySlot>(&rt)?;
+    run_over_layers::<OneSlot>(&rt)
 }
