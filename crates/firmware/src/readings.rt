@@ -1,7 +1,6 @@
 //! One reading: its claim is watched until the request has ended, and collected.
 
 ghost use Rattle.std.specs.Prelude.{◌≡◌, is_ok, IfOk};
-ghost use Rattle.engine.specs.State.{state};
 ghost use Rattle.firmware.specs.Readings.{ended_in, Watched, GoesOn, Ready, Collected};
 
 use claims::{Claim, collect_claim};
@@ -12,7 +11,7 @@ use ports::port::Port;
 
 /// Whether the request of a task has ended.
 fn has_ended<P: Port>(scheduler: &Scheduler<P>, task: u32) -> bool
-    ensures { result ≡ ended_in (state P.Port scheduler.now) task }
+    ensures { result ≡ ended_in scheduler.now task }
 {
     match scheduler.stage(task) {
         Ok(Stage::Ended { .. }) => true,
@@ -22,7 +21,7 @@ fn has_ended<P: Port>(scheduler: &Scheduler<P>, task: u32) -> bool
 
 /// The accelerator of task 2 says that it is done as soon as it runs.
 fn report_done<P: Port>(scheduler: &mut Scheduler<P>)
-    ensures { GoesOn (state P.Port scheduler.old) (state P.Port scheduler.new) }
+    ensures { GoesOn scheduler.old scheduler.new }
 {
     if let Ok(Stage::Running { slot }) = scheduler.stage(2) {
         let _ = scheduler.done(slot);
@@ -31,8 +30,8 @@ fn report_done<P: Port>(scheduler: &mut Scheduler<P>)
 
 /// Ticks until the request of a claim has ended: at most `stay` ticks.
 fn watch<P: Port>(scheduler: &mut Scheduler<P>, task: u32, claim: &Claim, stay: u32)
-    requires { Ready (state P.Port scheduler.old) task stay claim.now }
-    ensures { Watched (state P.Port scheduler.old) claim.now (state P.Port scheduler.new) }
+    requires { Ready scheduler.old task stay claim.now }
+    ensures { Watched scheduler.old claim.now scheduler.new }
 {
     for n in 0..stay {
         report_done(scheduler);
@@ -50,8 +49,8 @@ pub fn complete<P: Port>(
     claim: Result<Claim, Refusal>,
     stay: u32,
 ) -> Result<Report, Refusal>
-    requires { IfOk claim (Ready (state P.Port scheduler.old) task stay) }
-    ensures { (Collected task (state P.Port scheduler.old) (state P.Port scheduler.new)) × (is_ok result ≡ is_ok claim) }
+    requires { IfOk claim (Ready scheduler.old task stay) }
+    ensures { (Collected task scheduler.old scheduler.new) × (is_ok result ≡ is_ok claim) }
 {
     let mut claim = claim?;
     watch(scheduler, task, &claim, stay);

@@ -1,7 +1,6 @@
 //! Rounds of readings: three tasks ask at once, and each claim is collected before the next round.
 
 ghost use Rattle.std.specs.Prelude.{◌≡◌, length};
-ghost use Rattle.engine.specs.State.{state};
 ghost use Rattle.firmware.specs.Rounds.{layered, stay_at, Serving};
 
 use crate::readings::complete;

@@ -1,5 +1,4 @@
 use Rattle.std.proofs.Common.{is_ok, IfOk, sym, ap, ◌∙◌, subst}
-use Rattle.engine.specs.State.{state}
 use Rattle.claims.specs.Claims.{after}
 use Rattle.firmware.specs.Readings.{Ready}
 use Rattle.firmware.proofs.Watching.{taken, collected}
@@ -14,5 +13,5 @@ pub returns : goal.returns
 returns g c =
     let x = taken c.watch.ensures c.collect_claim.ensures.given_back in
     let was = c.in_ok-claim.was in
-    let p = subst (λ r. IfOk r (Ready (state g.P.Port c.args.scheduler.now) c.args.task c.args.stay)) was c.requires in
+    let p = subst (λ r. IfOk r (Ready c.args.scheduler.now c.args.task c.args.stay)) was c.requires in
     (collected c.watch.ensures c.collect_claim.ensures.given_back p.names.task_is, ap is_ok x.1 ∙ sym (ap is_ok was))
