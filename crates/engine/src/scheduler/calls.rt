@@ -2,6 +2,7 @@
 
 ghost use Rattle.std.specs.Prelude.{◌≡◌};
 ghost use Rattle.plan.specs.Layouts.{layout};
+ghost use Rattle.plan.specs.Rules.{Rules};
 ghost use Rattle.model.specs.declared.calls.Answer.TheVariants.{Ticket, Ticked, Completed, Collected, Stands};
 ghost use Rattle.model.specs.declared.calls.Call.TheVariants.{Request, Tick, Done, Collect, StageOf};
 ghost use Rattle.model.specs.Laws.{Opened, Performed};
@@ -26,7 +27,8 @@ impl<P: Port> Scheduler<P> {
 
     /// Asks for an accelerator on behalf of a task, and answers the ticket.
     pub fn request(&mut self, task: u32, accelerator: u32) -> Result<u32, Refusal>
-        ensures { Performed self.old (Request task accelerator) (told Ticket result) self.new }
+        ensures rules { Rules self.old.layout }
+        ensures performed { Performed self.old (Request task accelerator) (told Ticket result) self.new }
     {
         self.accept(task, accelerator)
     }

@@ -1,6 +1,7 @@
 //! How each call is carried out.
 
 ghost use Rattle.std.specs.Prelude.{◌≡◌};
+ghost use Rattle.plan.specs.Rules.{Rules};
 ghost use Rattle.model.specs.Calls.{request_answer, request_after, tick_answer, tick_after, done_answer, done_after, collect_answer, collect_after, stage_answer};
 ghost use Rattle.model.specs.declared.calls.Answer.TheVariants.{Ticket, Ticked, Completed, Collected, Stands};
 ghost use Rattle.engine.specs.Answers.{told};
@@ -14,6 +15,7 @@ use ports::port::Port;
 impl<P: Port> Scheduler<P> {
     /// Accepts a request with the next ticket, or refuses it.
     pub(super) fn accept(&mut self, task: u32, accelerator: u32) -> Result<u32, Refusal>
+        ensures rules { Rules self.old.layout }
         ensures answer { told Ticket result ≡ request_answer self.old task accelerator }
         ensures after { self.new ≡ request_after self.old task accelerator }
     {
