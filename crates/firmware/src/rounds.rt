@@ -1,7 +1,7 @@
 //! Rounds of readings: three tasks ask at once, and each claim is collected before the next round.
 
 ghost use Rattle.std.specs.Prelude.{◌≡◌, length};
-ghost use Rattle.firmware.specs.Rounds.{layered, stay_at, Serving};
+ghost use Rattle.firmware.specs.Rounds.{stay_at, Serving};
 
 use crate::readings::complete;
 use claims::{Claim, request_claim};
@@ -31,8 +31,8 @@ fn round<D: Delivered + Drop>(
     rows: &[Row; 32],
     accelerators: [u32; 3],
 ) -> [Reading; 3]
-    requires { Serving (state (layered D.Port) scheduler.old) rows.now }
-    ensures { Serving (state (layered D.Port) scheduler.new) rows.now }
+    requires { Serving scheduler.old rows.now }
+    ensures { Serving scheduler.new rows.now }
 {
     let [a, b, c] = accelerators;
     // tasks 1 and 2 share a slot: the one that waits for it can interrupt the writing for task 0
