@@ -5,7 +5,6 @@
 
 ghost use Rattle.std.specs.Prelude.{◌≡◌, IfOk};
 ghost use Rattle.engine.specs.Answers.{told};
-ghost use Rattle.engine.specs.State.{state};
 ghost use Rattle.model.specs.declared.calls.Answer.TheVariants.{Collected};
 ghost use Rattle.model.specs.declared.calls.Call.TheVariants.{Request, Collect};
 ghost use Rattle.model.specs.Laws.{Performed};
@@ -42,9 +41,9 @@ pub fn request_claim<P: Port>(
     task: u32,
     accelerator: u32,
 ) -> Result<Claim, Refusal>
-    ensures performed { Performed (state P.Port scheduler.old) (Request task accelerator) (claimed result) (state P.Port scheduler.new) }
+    ensures performed { Performed scheduler.old (Request task accelerator) (claimed result) scheduler.new }
     ensures names { IfOk result (Names task) }
-    ensures handed_over { HandsOver (state P.Port scheduler.old) accelerator (state P.Port scheduler.new) result }
+    ensures handed_over { HandsOver scheduler.old accelerator scheduler.new result }
 {
     let ticket = scheduler.request(task, accelerator)?;
     Ok(Claim { task, ticket })
@@ -57,9 +56,9 @@ pub fn collect_claim<P: Port>(
     claim: &mut Claim,
 ) -> Result<Report, Refusal>
     requires { Spent claim.old → ⊥ }
-    ensures performed { Performed (state P.Port scheduler.old) (Collect claim.old.task claim.old.ticket) (told Collected result) (state P.Port scheduler.new) }
+    ensures performed { Performed scheduler.old (Collect claim.old.task claim.old.ticket) (told Collected result) scheduler.new }
     ensures claim { claim.new ≡ after claim.old result }
-    ensures given_back { GivesBack (state P.Port scheduler.old) claim.old (state P.Port scheduler.new) result }
+    ensures given_back { GivesBack scheduler.old claim.old scheduler.new result }
 {
     let report = scheduler.collect(claim.task, claim.ticket)?;
     claim.task = NO_TASK;

@@ -1,3 +1,2 @@
 pub mod Answers
 pub mod Views
-pub mod State

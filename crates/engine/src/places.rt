@@ -2,6 +2,7 @@
 
 ghost use Rattle.std.specs.Prelude.{◌≡◌, ℕ, ◌<◌, ◌≤◌, MatchResult};
 ghost use Rattle.plan.specs.Layouts.{layout};
+ghost use Rattle.plan.specs.Rules.{Rules};
 
 use model::refusals::Refusal;
 use plan::plan::Plan;
@@ -26,7 +27,8 @@ impl Model for Place {
 impl Place {
     /// The place of a task's record, if the plan has the task.
     pub(crate) fn of(task: u32, plan: &Plan) -> Result<Place, Refusal>
-        ensures { MatchResult result (λ place. (place ≡ task) × (task < (layout plan.now).tasks)) (λ why. (why ≡ Refusal.NoTask) × ((layout plan.now).tasks ≤ task)) }
+        ensures rules { Rules (layout plan.now) }
+        ensures is { MatchResult result (λ place. (place ≡ task) × (task < (layout plan.now).tasks)) (λ why. (why ≡ Refusal.NoTask) × ((layout plan.now).tasks ≤ task)) }
     {
         if task >= plan.tasks() {
             return Err(Refusal::NoTask);

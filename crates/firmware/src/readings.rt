@@ -1,7 +1,6 @@
 //! One reading: its request is watched until it has ended, and its claim is collected.
 
 ghost use Rattle.std.specs.Prelude.{◌≡◌, is_ok, IfOk};
-ghost use Rattle.engine.specs.State.{state};
 ghost use Rattle.firmware.specs.Readings.{ended_in, Watched, GoesOn, Ready, CollectedIf};
 
 use claims::{Claim, collect_claim};
@@ -22,14 +21,14 @@ pub type Reading = Result<Report, Refusal>;
 
 /// Whether the request of a task has ended.
 fn has_ended<P: Port>(scheduler: &Scheduler<P>, task: u32) -> bool
-    ensures { result ≡ ended_in (state P.Port scheduler.now) task }
+    ensures { result ≡ ended_in scheduler.now task }
 {
     matches!(scheduler.stage(task), Ok(Stage::Ended { .. }))
 }
 
 /// The accelerator of task 2 says that it is done as soon as it runs.
 fn report_done<P: Port>(scheduler: &mut Scheduler<P>)
-    ensures { GoesOn (state P.Port scheduler.old) (state P.Port scheduler.new) }
+    ensures { GoesOn scheduler.old scheduler.new }
 {
     if let Ok(Stage::Running { slot }) = scheduler.stage(2) {
         // never refused: the request runs there
@@ -39,8 +38,8 @@ fn report_done<P: Port>(scheduler: &mut Scheduler<P>)
 
 /// Ticks until a request has ended: at most as many ticks as it can stay.
 fn watch<P: Port>(scheduler: &mut Scheduler<P>, asked: &Asked)
-    requires { Ready (state P.Port scheduler.old) asked.now }
-    ensures { Watched (state P.Port scheduler.old) asked.now.claim (state P.Port scheduler.new) }
+    requires { Ready scheduler.old asked.now }
+    ensures { Watched scheduler.old asked.now.claim scheduler.new }
 {
     for _ in 0..asked.stay {
         report_done(scheduler);
@@ -53,8 +52,8 @@ fn watch<P: Port>(scheduler: &mut Scheduler<P>, asked: &Asked)
 
 /// Watches a request to its end and collects its claim. A refusal is handed on.
 pub fn complete<P: Port>(scheduler: &mut Scheduler<P>, asked: Result<Asked, Refusal>) -> Reading
-    requires { IfOk asked (Ready (state P.Port scheduler.old)) }
-    ensures collected { CollectedIf (state P.Port scheduler.old) (state P.Port scheduler.new) asked }
+    requires { IfOk asked (Ready scheduler.old) }
+    ensures collected { CollectedIf scheduler.old scheduler.new asked }
     ensures handed_on { is_ok result ≡ is_ok asked }
 {
     let asked = asked?;

@@ -1,7 +1,6 @@
 //! Rounds of readings: three tasks ask at once, and each claim is collected before the next round.
 
 ghost use Rattle.std.specs.Prelude.{◌≡◌, IfOk};
-ghost use Rattle.engine.specs.State.{state};
 ghost use Rattle.firmware.specs.Readings.{GoesOn, Ready, Of};
 ghost use Rattle.firmware.specs.Rounds.{stay_at, Serving};
 
@@ -31,11 +30,11 @@ fn ask<P: Port>(
     task: u32,
     accelerator: u32,
 ) -> Result<Asked, Refusal>
-    requires { Serving (state P.Port scheduler.old) rows.now }
-    ensures serving { Serving (state P.Port scheduler.new) rows.now }
-    ensures goes_on { GoesOn (state P.Port scheduler.old) (state P.Port scheduler.new) }
+    requires { Serving scheduler.old rows.now }
+    ensures serving { Serving scheduler.new rows.now }
+    ensures goes_on { GoesOn scheduler.old scheduler.new }
     ensures of { IfOk result (Of task) }
-    ensures ready { IfOk result (Ready (state P.Port scheduler.new)) }
+    ensures ready { IfOk result (Ready scheduler.new) }
 {
     let claim = request_claim(scheduler, task, accelerator)?;
     Ok(Asked {
@@ -51,8 +50,8 @@ fn round<M: Memory + Drop>(
     rows: &[Row; 32],
     accelerators: [u32; 3],
 ) -> [Reading; 3]
-    requires { Serving (state ⟦<Renumbered<Delivered<M>> as Port>⟧ scheduler.old) rows.now }
-    ensures { Serving (state ⟦<Renumbered<Delivered<M>> as Port>⟧ scheduler.new) rows.now }
+    requires { Serving scheduler.old rows.now }
+    ensures { Serving scheduler.new rows.now }
 {
     let [a, b, c] = accelerators;
     // tasks 1 and 2 share a slot: the one that waits for it can interrupt the writing for task 0

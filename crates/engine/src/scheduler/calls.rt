@@ -2,12 +2,12 @@
 
 ghost use Rattle.std.specs.Prelude.{◌≡◌, Ok};
 ghost use Rattle.plan.specs.Layouts.{layout};
+ghost use Rattle.plan.specs.Rules.{Rules};
 ghost use Rattle.model.specs.declared.calls.Answer.TheVariants.{Ticket, Ticked, Completed, Collected, Stands};
 ghost use Rattle.model.specs.declared.calls.Call.TheVariants.{Request, Tick, Done, Collect, StageOf};
 ghost use Rattle.model.specs.Laws.{Opened, Performed};
 ghost use Rattle.model.specs.States.{start};
 ghost use Rattle.engine.specs.Answers.{told};
-ghost use Rattle.engine.specs.State.{state};
 
 use crate::scheduler::Scheduler;
 use model::calls::{Answer, Call};
@@ -19,50 +19,51 @@ use ports::port::Port;
 impl<P: Port> Scheduler<P> {
     /// A scheduler with a plan, a port and its first ticket. It shuts all slots of the port.
     pub fn start(plan: Plan, port: P, first: u32) -> Scheduler<P>
-        ensures is { state P.Port result ≡ start (layout plan) P.Port.INTERRUPTIBLE first (P.Port.meaning port) }
-        ensures opened { Opened (layout plan) P.Port.INTERRUPTIBLE first (state P.Port result) }
+        ensures is { result ≡ start (layout plan) P.Port.INTERRUPTIBLE first (P.Port.meaning port) }
+        ensures opened { Opened (layout plan) P.Port.INTERRUPTIBLE first result }
     {
         Scheduler::fresh(plan, port, first)
     }
 
     /// Asks for an accelerator on behalf of a task, and answers the ticket.
     pub fn request(&mut self, task: u32, accelerator: u32) -> Result<u32, Refusal>
-        ensures { Performed (state P.Port self.old) (Request task accelerator) (told Ticket result) (state P.Port self.new) }
+        ensures rules { Rules self.old.layout }
+        ensures performed { Performed self.old (Request task accelerator) (told Ticket result) self.new }
     {
         self.accept(task, accelerator)
     }
 
     /// Lets a tick pass, and answers the ticket that was written, if any, and how many requests ended.
     pub fn tick(&mut self) -> (Option<u32>, u32)
-        ensures { Performed (state P.Port self.old) Tick (Ok (Ticked result.0 result.1)) (state P.Port self.new) }
+        ensures { Performed self.old Tick (Ok (Ticked result.0 result.1)) self.new }
     {
         self.pass()
     }
 
     /// Says that the accelerator in a slot is done, and answers the ticket of its request.
     pub fn done(&mut self, slot: u32) -> Result<u32, Refusal>
-        ensures { Performed (state P.Port self.old) (Done slot) (told Completed result) (state P.Port self.new) }
+        ensures { Performed self.old (Done slot) (told Completed result) self.new }
     {
         self.complete(slot)
     }
 
     /// Collects an ended request, and answers what became of it.
     pub fn collect(&mut self, task: u32, ticket: u32) -> Result<Report, Refusal>
-        ensures { Performed (state P.Port self.old) (Collect task ticket) (told Collected result) (state P.Port self.new) }
+        ensures { Performed self.old (Collect task ticket) (told Collected result) self.new }
     {
         self.hand_over(task, ticket)
     }
 
     /// The stage of a task's request. It changes nothing.
     pub fn stage(&self, task: u32) -> Result<Stage, Refusal>
-        ensures { Performed (state P.Port self.now) (StageOf task) (told Stands result) (state P.Port self.now) }
+        ensures { Performed self.now (StageOf task) (told Stands result) self.now }
     {
         self.look(task)
     }
 
     /// Makes any of these calls. Programs that take calls as values go by this one.
     pub fn perform(&mut self, call: Call) -> Result<Answer, Refusal>
-        ensures { Performed (state P.Port self.old) call result (state P.Port self.new) }
+        ensures { Performed self.old call result self.new }
     {
         Ok(match call {
             Call::Request { task, accelerator } => Answer::Ticket(self.request(task, accelerator)?),

@@ -4,7 +4,6 @@ ghost use Rattle.std.specs.Prelude.{◌≡◌};
 ghost use Rattle.model.specs.States.{line};
 ghost use Rattle.model.specs.Records.{lowest};
 ghost use Rattle.model.specs.Moves.{queued_in, fill, settle};
-ghost use Rattle.engine.specs.State.{state};
 
 use crate::places::Place;
 use crate::scheduler::Scheduler;
@@ -14,7 +13,7 @@ use ports::port::Port;
 impl<P: Port> Scheduler<P> {
     /// The request that is next to get a slot of partition `k`.
     fn queued(&self, k: usize) -> Option<Place>
-        ensures { result ≡ lowest (queued_in (state P.Port self.now).layout k) (state P.Port self.now).records }
+        ensures { result ≡ lowest (queued_in self.now.layout k) self.now.records }
     {
         self.records
             .lowest(|r| r.stage == Stage::Queued && self.partition_of(r) == k)
@@ -22,7 +21,7 @@ impl<P: Port> Scheduler<P> {
 
     /// The slots in line of partition `k` go to its queued requests.
     fn fill(&mut self, k: usize)
-        ensures { state P.Port self.new ≡ fill k (line (state P.Port self.old) k) (state P.Port self.old) }
+        ensures { self.new ≡ fill k (line self.old k) self.old }
     {
         while let Some(slot) = self.lines.first(k) {
             let Some(place) = self.queued(k) else {
@@ -33,7 +32,7 @@ impl<P: Port> Scheduler<P> {
     }
 
     pub(super) fn settle(&mut self)
-        ensures { state P.Port self.new ≡ settle (state P.Port self.old) }
+        ensures { self.new ≡ settle self.old }
     {
         for k in 0..self.plan.partition_count() {
             self.fill(k);

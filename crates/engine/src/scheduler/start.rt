@@ -3,7 +3,6 @@
 ghost use Rattle.std.specs.Prelude.{◌≡◌};
 ghost use Rattle.plan.specs.Layouts.{layout};
 ghost use Rattle.model.specs.States.{start, shut_below};
-ghost use Rattle.engine.specs.State.{state};
 
 use crate::lines::Lines;
 use crate::records::Records;
@@ -24,7 +23,7 @@ fn shut_all<P: Port>(port: &mut P)
 impl<P: Port> Scheduler<P> {
     /// All slots shut and in line, no request, and `first` as the next ticket.
     pub(super) fn fresh(plan: Plan, mut port: P, first: u32) -> Scheduler<P>
-        ensures { state P.Port result ≡ start (layout plan) P.Port.INTERRUPTIBLE first (P.Port.meaning port) }
+        ensures { result ≡ start (layout plan) P.Port.INTERRUPTIBLE first (P.Port.meaning port) }
     {
         shut_all(&mut port);
         let lines = Lines::all_free(&plan);

@@ -1,10 +1,10 @@
 //! How each call is carried out.
 
 ghost use Rattle.std.specs.Prelude.{◌≡◌, Ok};
+ghost use Rattle.plan.specs.Rules.{Rules};
 ghost use Rattle.model.specs.Calls.{request_answer, request_after, tick_answer, tick_after, done_answer, done_after, collect_answer, collect_after, stage_answer};
 ghost use Rattle.model.specs.declared.calls.Answer.TheVariants.{Ticket, Ticked, Completed, Collected, Stands};
 ghost use Rattle.engine.specs.Answers.{told};
-ghost use Rattle.engine.specs.State.{state};
 
 use crate::places::Place;
 use crate::scheduler::Scheduler;
@@ -15,8 +15,9 @@ use ports::port::Port;
 impl<P: Port> Scheduler<P> {
     /// Accepts a request with the next ticket, or refuses it.
     pub(super) fn accept(&mut self, task: u32, accelerator: u32) -> Result<u32, Refusal>
-        ensures answer { told Ticket result ≡ request_answer (state P.Port self.old) task accelerator }
-        ensures after { state P.Port self.new ≡ request_after (state P.Port self.old) task accelerator }
+        ensures rules { Rules self.old.layout }
+        ensures answer { told Ticket result ≡ request_answer self.old task accelerator }
+        ensures after { self.new ≡ request_after self.old task accelerator }
     {
         let place = Place::of(task, &self.plan)?;
         if accelerator as usize >= self.plan.accelerator_count() {
@@ -37,8 +38,8 @@ impl<P: Port> Scheduler<P> {
 
     /// Ends the request that runs in a slot, as finished.
     pub(super) fn complete(&mut self, slot: u32) -> Result<u32, Refusal>
-        ensures answer { told Completed result ≡ done_answer (state P.Port self.old) slot }
-        ensures after { state P.Port self.new ≡ done_after (state P.Port self.old) slot }
+        ensures answer { told Completed result ≡ done_answer self.old slot }
+        ensures after { self.new ≡ done_after self.old slot }
     {
         if slot >= self.plan.slot_count() {
             return Err(Refusal::NoSlot);
@@ -55,8 +56,8 @@ impl<P: Port> Scheduler<P> {
 
     /// Passes a tick: the ticket written, if any, and how many requests ended.
     pub(super) fn pass(&mut self) -> (Option<u32>, u32)
-        ensures answer { Ok (Ticked result.0 result.1) ≡ tick_answer (state P.Port self.old) }
-        ensures after { state P.Port self.new ≡ tick_after (state P.Port self.old) }
+        ensures answer { Ok (Ticked result.0 result.1) ≡ tick_answer self.old }
+        ensures after { self.new ≡ tick_after self.old }
     {
         let overrun = self.expire();
         self.settle();
@@ -73,8 +74,8 @@ impl<P: Port> Scheduler<P> {
 
     /// Tells what became of an ended request and empties its record.
     pub(super) fn hand_over(&mut self, task: u32, ticket: u32) -> Result<Report, Refusal>
-        ensures answer { told Collected result ≡ collect_answer (state P.Port self.old) task ticket }
-        ensures after { state P.Port self.new ≡ collect_after (state P.Port self.old) task ticket }
+        ensures answer { told Collected result ≡ collect_answer self.old task ticket }
+        ensures after { self.new ≡ collect_after self.old task ticket }
     {
         let place = Place::of(task, &self.plan)?;
         let r = self.records.get(place);
@@ -100,7 +101,7 @@ impl<P: Port> Scheduler<P> {
 
     /// Tells the stage of a task's record.
     pub(super) fn look(&self, task: u32) -> Result<Stage, Refusal>
-        ensures { told Stands result ≡ stage_answer (state P.Port self.now) task }
+        ensures { told Stands result ≡ stage_answer self.now task }
     {
         let place = Place::of(task, &self.plan)?;
         Ok(self.records.get(place).stage)

@@ -4,7 +4,6 @@ ghost use Rattle.std.specs.Prelude.{◌≡◌, ◌≤◌, count_by};
 ghost use Rattle.ports.specs.Calls.{feed_after};
 ghost use Rattle.model.specs.Records.{lowest, ended_stage, fed_record};
 ghost use Rattle.model.specs.Moves.{begun, expired, expire, choose, stage_after, stage_fed, write};
-ghost use Rattle.engine.specs.State.{state};
 
 use crate::places::Place;
 use crate::scheduler::Scheduler;
@@ -16,10 +15,12 @@ use ports::port::Port;
 impl<P: Port> Scheduler<P> {
     /// The requests whose run ticks are used end, by rising ticket. Tells how many.
     pub(super) fn expire(&mut self) -> u32
-        ensures count { result ≡ count_by (expired (state P.Port self.old).layout) (state P.Port self.old).records }
+        ensures count { result ≡ count_by (expired self.old.layout) self.old.records }
         ensures few { result ≤ 16 }
-        ensures after { state P.Port self.new ≡ expire (state P.Port self.old) }
+        ensures after { self.new ≡ expire self.old }
     {
+        // Proofs see here that there are 16 records.
+        let _ = &self.records;
         let mut ended = 0;
         while let Some(place) = self.expired() {
             self.finish(place, Outcome::Overrun);
@@ -30,24 +31,25 @@ impl<P: Port> Scheduler<P> {
 
     /// The request that is next to end as overrun.
     fn expired(&self) -> Option<Place>
-        ensures { result ≡ lowest (expired (state P.Port self.now).layout) (state P.Port self.now).records }
+        ensures { result ≡ lowest (expired self.now.layout) self.now.records }
     {
+        let plan = &self.plan;
         self.records.lowest(|r| {
             matches!(r.stage, Stage::Running { .. })
-                && r.run == self.plan.accelerator(r.accelerator as usize).run
+                && r.run == plan.accelerator(r.accelerator as usize).run
         })
     }
 
     /// The request that the port began to write and has not written whole.
     fn begun(&self) -> Option<Place>
-        ensures { result ≡ lowest begun (state P.Port self.now).records }
+        ensures { result ≡ lowest begun self.now.records }
     {
         self.records.lowest(|r| matches!(r.stage, Stage::Reserved { .. }) && r.written > 0)
     }
 
     /// Whom the port writes.
     pub(super) fn choose(&self) -> Option<Place>
-        ensures { result ≡ choose (state P.Port self.now) }
+        ensures { result ≡ choose self.now }
     {
         if !P::INTERRUPTIBLE {
             if let Some(place) = self.begun() {
@@ -60,8 +62,8 @@ impl<P: Port> Scheduler<P> {
 
     /// The request at `place` is written, and the tick passes for all the others. Tells whether it ended.
     pub(super) fn write(&mut self, place: Place) -> bool
-        ensures ended { result ≡ ended_stage (stage_fed (state P.Port self.old) place) }
-        ensures after { state P.Port self.new ≡ write (state P.Port self.old) place }
+        ensures ended { result ≡ ended_stage (stage_fed self.old place) }
+        ensures after { self.new ≡ write self.old place }
     {
         let r = self.records.get(place);
         let stage = feed(&mut self.port, slot_of(r.stage));

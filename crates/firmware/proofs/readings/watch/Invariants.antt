@@ -1,9 +1,8 @@
 use Rattle.std.proofs.Common.{◌-◌}
-use Rattle.engine.specs.State.{state}
 use Rattle.firmware.proofs.Watching.{Watching}
 use Rattle.firmware.proofs.readings.watch.Given as goal
 
 -- the ticks that are left of the stay
 abbrev pub invariant-loop : goal.invariant-loop
 invariant-loop g l =
-    Watching (state g.P.Port l.initial.scheduler) l.asked.claim (l.end - l.counter) (state g.P.Port l.scheduler)
+    Watching l.initial.scheduler l.asked.claim (l.end - l.counter) l.scheduler

@@ -1,17 +1,16 @@
 use Rattle.std.proofs.Common.{◌≡◌, ◌+◌, ◌-◌, count_by}
 use Rattle.model.specs.Moves.{expired, expire_up_to}
-use Rattle.engine.specs.State.{state}
 use Rattle.engine.proofs.scheduler.Scheduler.expire.Given as goal
 
 -- what is left to expire gives the whole, and each turn ends one
 abbrev pub invariant-loop-place : goal.invariant-loop-place
 invariant-loop-place g l =
-    let s = state g.P.Port l.self in
-    let s₀ = state g.P.Port l.initial.self in
+    let s = l.self in
+    let s₀ = l.initial.self in
     (l.ended + count_by (expired s.layout) s.records ≡ count_by (expired s₀.layout) s₀.records)
     × (expire_up_to (16 - l.ended) s ≡ expire_up_to 16 s₀)
 
 abbrev pub decreases-loop-place : goal.decreases-loop-place
 decreases-loop-place g l =
-    let s = state g.P.Port l.self in
+    let s = l.self in
     count_by (expired s.layout) s.records

@@ -1,8 +1,7 @@
 use Rattle.std.proofs.Common.{◌≡◌}
 use Rattle.model.specs.Moves.{settle_below}
-use Rattle.engine.specs.State.{state}
 use Rattle.engine.proofs.scheduler.Scheduler.settle.Given as goal
 
 abbrev pub invariant-loop-k : goal.invariant-loop-k
 invariant-loop-k g l =
-    state g.P.Port l.self ≡ settle_below l.k (state g.P.Port l.initial.self)
+    l.self ≡ settle_below l.k l.initial.self
