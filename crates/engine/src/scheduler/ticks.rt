@@ -3,7 +3,7 @@
 ghost use Rattle.std.specs.Prelude.{◌≡◌, ◌≤◌, count_by};
 ghost use Rattle.ports.specs.Calls.{feed_after};
 ghost use Rattle.model.specs.Records.{lowest, ended_stage, fed_record};
-ghost use Rattle.model.specs.Moves.{begun, expired, expire, choose, stage_after, stage_fed, write};
+ghost use Rattle.model.specs.Moves.{expired, expire, choose, stage_after, stage_fed, write};
 
 use crate::places::Place;
 use crate::scheduler::Scheduler;
@@ -40,19 +40,14 @@ impl<P: Port> Scheduler<P> {
         })
     }
 
-    /// The request that the port began to write and has not written whole.
-    fn begun(&self) -> Option<Place>
-        ensures { result ≡ lowest begun self.now.records }
-    {
-        self.records.lowest(|r| matches!(r.stage, Stage::Reserved { .. }) && r.written > 0)
-    }
-
     /// Whom the port writes.
     pub(super) fn choose(&self) -> Option<Place>
         ensures { result ≡ choose self.now }
     {
         if !P::INTERRUPTIBLE {
-            if let Some(place) = self.begun() {
+            let begun = self.records.lowest(|r| matches!(r.stage, Stage::Reserved { .. })
+                && r.written > 0);
+            if let Some(place) = begun {
                 return Some(place);
             }
         }
