@@ -1,6 +1,6 @@
 //! The parts of a tick.
 
-ghost use Rattle.std.specs.Prelude.{◌≡◌, ◌≤◌, count_by};
+ghost use Rattle.std.specs.Prelude.{◌≡◌, ◌≤◌, count_by, length};
 ghost use Rattle.ports.specs.Calls.{feed_after};
 ghost use Rattle.model.specs.Records.{lowest, ended_stage, fed_record};
 ghost use Rattle.model.specs.Moves.{expired, expire, choose, stage_after, stage_fed, write};
@@ -19,8 +19,6 @@ impl<P: Port> Scheduler<P> {
         ensures few { result ≤ 16 }
         ensures after { self.new ≡ expire self.old }
     {
-        // Proofs see here that there are 16 records.
-        let _ = &self.records;
         let mut ended = 0;
         while let Some(place) = self.expired() {
             self.finish(place, Outcome::Overrun);
@@ -31,7 +29,8 @@ impl<P: Port> Scheduler<P> {
 
     /// The request that is next to end as overrun.
     fn expired(&self) -> Option<Place>
-        ensures { result ≡ lowest (expired self.now.layout) self.now.records }
+        ensures is { result ≡ lowest (expired self.now.layout) self.now.records }
+        ensures all { length self.now.records ≡ 16 }
     {
         let plan = &self.plan;
         self.records.lowest(|r| {
