@@ -16,7 +16,7 @@ use ports::port::Port;
 use ports::renumbered::Renumbered;
 use ports::slot_map::SlotMap;
 
-/// The stay of an accelerator in the delay table.
+/// The stay of an accelerator in the delay table; 0 where there is no row for it.
 fn stay_of(rows: &[Row; 32], accelerator: u32) -> u32
     ensures { result ≡ stay_at rows.now accelerator }
 {
