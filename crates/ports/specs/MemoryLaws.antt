@@ -1,12 +1,12 @@
 -- The entries of 32 slots, and the port over a memory of them.
-use Rattle.std.specs.Prelude.{◌≡◌, ℕ, ◌<◌, ◌≤◌, Bool, ◌≢◌, List, length, Ok, slice_index_or, slice_set}
+use Rattle.std.specs.Prelude.{◌≡◌, ℕ, ◌<◌, ◌≤◌, Bool, ◌≢◌, List, length, Ok, slice_index_or, slice_set, refl}
 use Rattle.std.proofs.Common.{⊎_elim, sym, ◌∙◌, arith, length-set}
 use Rattle.std.proofs.lemmas.List.FromFn.{length-map-range_with_len, get_or-map-range_with_len}
 use Rattle.std.proofs.lemmas.List.{same_lists, get_or-set_same, get_or-set_other}
 use Rattle.std.proofs.lemmas.Bool.{cases_eq}
 use Rattle.std.proofs.lemmas.Bool.Decides.{nat_tests}
 use Rattle.ports.specs.Calls.{fresh_entry, new_port, making}
-use Rattle.ports.specs.Meaning.{Entry, Sound}
+use Rattle.ports.specs.Meaning.{Entry, Meaning, Sound}
 use Rattle.ports.specs.Memories.{each_slot, Kept}
 
 pub length_each : (f : ℕ → Entry) → length (each_slot f) ≡ 32
@@ -35,6 +35,11 @@ each_put f g s e h q o =
 
 pub delivered_sound : (interruptible : Bool) (rate : ℕ) (es : List Entry) → 1 ≤ rate → rate ≤ 65535 → Kept interruptible es → Sound (record { rate = rate; entries = es })
 delivered_sound interruptible rate es lo up kept = record { slots = kept.slots; rate_low = lo; rate_high = up; fine = kept.fine }
+
+-- a port over a blank memory is a new port, at whatever rate
+pub new_means : (rate : ℕ) → ◌≡◌ {A = Meaning} (record { rate = rate; entries = each_slot fresh_entry }) (new_port rate)
+unfolding each_slot new_port
+new_means rate = refl
 
 pub new_delivered : (rate : ℕ) (es : List Entry) → (rate ≢ 0) → rate ≤ 65535 → es ≡ each_slot fresh_entry → Ok (record { rate = rate; entries = es }) ≡ making rate
 unfolding each_slot new_port

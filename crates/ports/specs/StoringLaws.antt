@@ -2,7 +2,7 @@
 use Rattle.std.specs.Prelude.{◌≡◌, ℕ, ◌<◌, ◌≤◌, true, false, cond, ◌&&◌, ◌≢◌, List, length, replicate, Some, None, Option, nat_lt, slice_index_or, slice_set, refl}
 use Rattle.std.proofs.Common.{⊎_elim, sym, ap, subst, ◌∙◌, le_refl, arith}
 use Rattle.std.proofs.lemmas.List.{get_or-set_same, get_or-set_other, get_or-replicate}
-use Rattle.std.proofs.lemmas.Bool.{cases_eq, cases_Bool, eq-eqb, ne_eqb, eqb-true, not-false, and_right, and_from, and_parts, lt-ltb, ltb-true, le-ltb, both_ways}
+use Rattle.std.proofs.lemmas.Bool.{cases_eq, cases_lt, cases_Bool, eq-eqb, ne_eqb, eqb-true, not-false, and_right, and_from, and_parts, lt-ltb, ltb-true, le-ltb, both_ways}
 use Rattle.ports.specs.declared.progress.Progress.{Progress}
 use Rattle.ports.specs.declared.stored.Stored.{Stored}
 use Rattle.ports.specs.declared.stored.Begun.{Begun}
@@ -14,8 +14,8 @@ use Rattle.ports.specs.Progresses.{progress_entry}
 use Rattle.ports.specs.Storing.{vacant, IsStored, written_at, waits, stored_entry, stored_entries, Current}
 use Rattle.ports.specs.CallLaws.{other_decides, none_below}
 
-pub stored_here : (xs : List Stored) (b : Option Begun) (s : ℕ) → s ≤ 31 → slice_index_or (stored_entries xs b) s nothing ≡ stored_entry (slice_index_or xs s vacant) (written_at b s) s
-stored_here xs b s h = each_here (λ k. stored_entry (slice_index_or xs k vacant) (written_at b k) k) s nothing h
+pub stored_here : (xs : List Stored) (b : Option Begun) (s : ℕ) (d : Entry) → s ≤ 31 → slice_index_or (stored_entries xs b) s d ≡ stored_entry (slice_index_or xs s vacant) (written_at b s) s
+stored_here xs b s d h = each_here (λ k. stored_entry (slice_index_or xs k vacant) (written_at b k) k) s d h
 
 -- without progress a slot is not half written
 still : (x : Stored) (k : ℕ) → half (stored_entry x 0 k) ≡ false
@@ -26,19 +26,19 @@ no_progress : (b : Option Begun) (s k : ℕ) → waits b s ≡ false → k ≢ s
 no_progress None s k w d = refl
 no_progress (Some x) s k w d = rw (ne_eqb k x.slot.number (λ e. d (e ∙ eqb-true x.slot.number s (not-false _ w)))) refl
 
-none_else : (xs : List Stored) (b : Option Begun) (s : ℕ) → waits b s ≡ false → must_wait false (stored_entries xs b) s ≡ false
+pub none_else : (xs : List Stored) (b : Option Begun) (s : ℕ) → waits b s ≡ false → must_wait false (stored_entries xs b) s ≡ false
 none_else xs b s w =
     none_below (stored_entries xs b) s 32
-    (λ t l d. ap half (stored_here xs b t (omega arith) ∙ ap (λ n. stored_entry (slice_index_or xs t vacant) n t) (no_progress b s t w d)) ∙ still (slice_index_or xs t vacant) t)
+    (λ t l d. ap half (stored_here xs b t nothing (omega arith) ∙ ap (λ n. stored_entry (slice_index_or xs t vacant) n t) (no_progress b s t w d)) ∙ still (slice_index_or xs t vacant) t)
 
-one_else : (xs : List Stored) (x : Begun) (s : ℕ) → Current xs (Some x) → (x.slot.number ≢ s) → must_wait false (stored_entries xs (Some x)) s ≡ true
+pub one_else : (xs : List Stored) (x : Begun) (s : ℕ) → Current xs (Some x) → (x.slot.number ≢ s) → must_wait false (stored_entries xs (Some x)) s ≡ true
 one_else xs x s cur d =
     let k = x.slot.number in
     let n : written_at (Some x) k ≡ x.written = rw (eq-eqb k k refl) refl in
     let l : k < 32 = omega (arith, x.slot.there) in
     let q = cur k l (omega (arith, n, x.some)) in
     let e = and_from (nat_lt 0 (written_at (Some x) k)) (nat_lt (written_at (Some x) k) (slice_index_or xs k vacant).size) (lt-ltb 0 (written_at (Some x) k) (omega (arith, n, x.some))) (lt-ltb (written_at (Some x) k) (slice_index_or xs k vacant).size q.1) in
-    (other_decides (stored_entries xs (Some x)) s 32).1 (k, l, (d, ap half (stored_here xs (Some x) k x.slot.there) ∙ rw q.0 e))
+    (other_decides (stored_entries xs (Some x)) s 32).1 (k, l, (d, ap half (stored_here xs (Some x) k nothing x.slot.there) ∙ rw q.0 e))
 
 -- who waits
 pub waits_is : (xs : List Stored) (b : Option Begun) (s : ℕ) → Current xs b → waits b s ≡ must_wait false (stored_entries xs b) s
@@ -61,12 +61,21 @@ stored_is p x n s i f =
 written_fits : (x : Stored) (n : ℕ) → n ≤ x.size → cond x.whole x.size n ≤ x.size
 written_fits x n h = elim x.whole as (λ b. cond b x.size n ≤ x.size) [ true ↦ le_refl x.size | false ↦ h ]
 
+-- no slot above 31 is begun
+none_above : (b : Option Begun) (k : ℕ) → 31 < k → written_at b k ≡ 0
+none_above None k h = refl
+none_above (Some x) k h = rw (ne_eqb k x.slot.number (λ e. omega (arith, x.slot.there, e))) refl
+
 -- progress ends below the size
-pub within : (xs : List Stored) (b : Option Begun) (k : ℕ) → Current xs b → k ≤ 31 → written_at b k ≤ (slice_index_or xs k vacant).size
-within xs b k cur h =
+pub within : (xs : List Stored) (b : Option Begun) (k : ℕ) → Current xs b → written_at b k ≤ (slice_index_or xs k vacant).size
+within xs b k cur =
     ⊎_elim
     (λ (z : written_at b k ≡ 0). omega arith)
-    (λ (z : written_at b k ≢ 0). let q = cur k (omega arith) (omega arith) in omega (arith, q.1))
+    (λ (z : written_at b k ≢ 0).
+    ⊎_elim
+    (λ (l : k < 32). let q = cur k l (omega arith) in omega (arith, q.1))
+    (λ (l : 32 ≤ k). absurd (z (none_above b k (omega arith))))
+    (cases_lt k 32))
     (cases_eq (written_at b k) 0)
 
 stored_fine : (x : Stored) (n k : ℕ) → n ≤ x.size → k ≤ 31 → Fine (stored_entry x n k)
@@ -86,9 +95,9 @@ stored_kept xs b cur = record {
   slots = length_each (λ k. stored_entry (slice_index_or xs k vacant) (written_at b k) k);
   fine = λ k l.
       let h : k ≤ 31 = omega arith in
-      subst Fine (sym (stored_here xs b k h)) (stored_fine (slice_index_or xs k vacant) (written_at b k) k (within xs b k cur h) h);
+      subst Fine (sym (stored_here xs b k nothing h)) (stored_fine (slice_index_or xs k vacant) (written_at b k) k (within xs b k cur) h);
   alone = λ k l e.
-      sym (waits_is xs b k cur) ∙ half_alone b (slice_index_or xs k vacant) k (sym (ap half (stored_here xs b k (omega arith))) ∙ e);
+      sym (waits_is xs b k cur) ∙ half_alone b (slice_index_or xs k vacant) k (sym (ap half (stored_here xs b k nothing (omega arith))) ∙ e);
 }
 
 pub new_stored : (p : Progress) (x : Stored) → IsStored p x → ((k : ℕ) → progress_entry p k ≡ fresh_entry k) → stored_entries (replicate 32 x) None ≡ each_slot fresh_entry
