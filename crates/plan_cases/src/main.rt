@@ -123,17 +123,14 @@ fn padded(heap: Global, size: usize) -> Result<Vec<u8>, AllocError> {
 fn tell(rt: &HostRuntime, name: &str, text: &[u8]) -> io::Result<()> {
     let mut plan = Plan::empty();
     match read(text, &mut plan) {
-        Ok(()) => {
-            let slots = plan.slot_count();
-            println!(rt; "{name}: accepted with {slots} slots")
-        }
-        Err(fault) => {
-            let number = fault.number();
-            let layer = fault.layer();
-            let line = fault.line();
-            let field = fault.field();
-            println!(rt; "{name}: {number} {layer} {line} {field}")
-        }
+        Ok(()) => println!(rt; "{name}: accepted with {} slots", plan.slot_count()),
+        Err(fault) => println!(rt;
+            "{name}: {} {} {} {}",
+            fault.number(),
+            fault.layer(),
+            fault.line(),
+            fault.field()
+        ),
     }
 }
 

@@ -4,7 +4,7 @@ ghost use Rattle.std.specs.Prelude.{◌≡◌, ◌++◌, length, IfOk, OnOk};
 ghost use Rattle.plan.specs.Layouts.{layout};
 ghost use Rattle.ports.specs.Calls.{why_rate};
 ghost use Rattle.script.specs.Lines.{lines_of};
-ghost use Rattle.script.specs.Transcripts.{line_of, row_lines, later_lines, on_rate, on_script, transcript_of};
+ghost use Rattle.script.specs.Transcripts.{line_of, no_line, row_lines, later_lines, on_rate, on_script, transcript_of};
 
 use crate::decimals::print_number;
 use crate::lines::{Kind, read_script};
@@ -33,6 +33,13 @@ fn print_line(out: &mut Vec<u8>, word: &[u8], numbers: &[u32]) -> Result<(), All
     Ok(())
 }
 
+/// Adds the line of a refusal.
+fn print_refusal(out: &mut Vec<u8>, number: u32) -> Result<(), AllocError>
+    ensures { OnOk result (out.new.items ≡ out.old.items ++ no_line number) }
+{
+    print_line(out, b"no", &[number])
+}
+
 /// Adds the delay table, a line for each accelerator.
 fn print_table<P: Port>(out: &mut Vec<u8>, plan: &Plan, port: &P) -> Result<(), AllocError>
     ensures { OnOk result (out.new.items ≡ out.old.items ++ row_lines (layout plan.now) (P.Port.meaning port.now).rate P.Port.INTERRUPTIBLE (length (layout plan.now).accelerators)) }
@@ -51,7 +58,7 @@ fn print_later(out: &mut Vec<u8>, lines: &[u8]) -> Result<(), AllocError>
     ensures { OnOk result (out.new.items ≡ out.old.items ++ later_lines (lines_of lines.now)) }
 {
     for _line in lines.split_inclusive(|byte| *byte == b'\n') {
-        print_line(out, b"no", &[ScriptRefusal::BadLine.number()])?;
+        print_refusal(out, ScriptRefusal::BadLine.number())?;
     }
     Ok(())
 }
@@ -71,7 +78,7 @@ fn print_run<M: Memory + Drop>(
             print_table(out, plan, &port)?;
             print_later(out, rest)
         }
-        Err(refusal) => print_line(out, b"no", &[refusal.number()]),
+        Err(refusal) => print_refusal(out, refusal.number()),
     }
 }
 
@@ -82,7 +89,7 @@ fn print_script(out: &mut Vec<u8>, plan: &Plan, script: &[u8]) -> Result<(), All
     match read_script(script) {
         Ok((Kind::Interruptible, rate, rest)) => print_run::<EverySlot>(out, plan, rate, rest),
         Ok((Kind::Uninterruptible, rate, rest)) => print_run::<OneSlot>(out, plan, rate, rest),
-        Err(unread) => print_line(out, b"no", &[unread.number()]),
+        Err(unread) => print_refusal(out, unread.number()),
     }
 }
 

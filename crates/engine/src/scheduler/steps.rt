@@ -20,10 +20,12 @@ impl<P: Port> Scheduler<P> {
         ensures after { self.new ≡ request_after self.old task accelerator }
     {
         let place = Place::of(task, &self.plan)?;
-        if accelerator as usize >= self.plan.accelerator_count() {
-            return Err(Refusal::NoAccelerator);
-        }
-        if self.plan.accelerator(accelerator as usize).owner != task {
+        let wanted = self
+            .plan
+            .accelerators()
+            .get(accelerator as usize)
+            .ok_or(Refusal::NoAccelerator)?;
+        if wanted.owner != task {
             return Err(Refusal::OtherOwner);
         }
         if self.records.holds(place) {

@@ -11,7 +11,7 @@ pub loop-line-preserved : goal.loop-line-preserved
 loop-line-preserved c =
     let s = c.in-Some.ensures.steps in
     let line = split _ _ _ s.1.0 s.0 s.1.1 s.2 (s.1.2 (λ b. eqb b 10) (always_returns_same _ _ _ (λ a r q k. search (rules, tests)))).1 in
-    refused _ _ _ _ _ _ _ c.number.ensures line c.in_ok-print_line.ensures c.loop-line.invariant
+    refused _ _ _ _ _ _ _ c.number.ensures line c.in_ok-print_refusal.ensures c.loop-line.invariant
 
 pub returns : goal.returns
 returns c = sym (all_refused _ _ c.in-None.ensures.steps.0) ∙ c.loop-line.invariant
