@@ -7,7 +7,7 @@ use plan::plan::read::read;
 use std::alloc::{AllocError, Global};
 use std::io;
 
-const CASES: [(&str, &[u8]); 46] = [
+const CASES: &[(&str, &[u8])] = &[
     (
         "the worked example",
         b"c 10 1 2 2\np 10 1 10\na 0 0 10 2\na 0 1 4 1\n",

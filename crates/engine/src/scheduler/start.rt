@@ -14,7 +14,7 @@ use ports::port::Port;
 fn shut_all<P: Port>(port: &mut P)
     ensures { P.Port.meaning port.new ≡ shut_below 32 (P.Port.meaning port.old) }
 {
-    for slot in 0..32u32 {
+    for slot in 0..32 {
         // No port refuses to shut one of its 32 slots.
         let _ = port.shut(slot);
     }
