@@ -1,5 +1,5 @@
 -- The tests of a stage, and a record before and after a move.
-use Rattle.std.proofs.Common.{◌≡◌, ◌≤◌, true, false, ◌⊎◌, sym, refl, subst, inl, inr, arith}
+use Rattle.std.proofs.Common.{◌≡◌, ◌≤◌, true, false, ◌⊎◌, sym, refl, subst, arith}
 use Rattle.std.proofs.lemmas.Bool.{both_ways}
 use Rattle.waits.specs.Table.{Stage, Rec, Queued, Reserved, Waiting, Unended, held_stage, queued_stage, reserved_stage, running_stage, waiting_stage, occupant_stage, unended_stage}
 use Rattle.waits.specs.Table.Stage.{empty, queued, reserved, running, ended}
@@ -9,67 +9,31 @@ pub no_true : {A : Type 0} → false ≡ true → A
 no_true e = absurd (both_ways false refl e)
 
 pub queued_waiting : (σ : Stage) → queued_stage σ ≡ true → waiting_stage σ ≡ true
-queued_waiting empty e = e
-queued_waiting queued e = e
-queued_waiting reserved e = refl
-queued_waiting running e = e
-queued_waiting ended e = e
+queued_waiting σ e = grind arith
 
 pub reserved_waiting : (σ : Stage) → reserved_stage σ ≡ true → waiting_stage σ ≡ true
-reserved_waiting empty e = e
-reserved_waiting queued e = refl
-reserved_waiting reserved e = e
-reserved_waiting running e = e
-reserved_waiting ended e = e
+reserved_waiting σ e = grind arith
 
 pub reserved_occupant : (σ : Stage) → reserved_stage σ ≡ true → occupant_stage σ ≡ true
-reserved_occupant empty e = e
-reserved_occupant queued e = e
-reserved_occupant reserved e = e
-reserved_occupant running e = refl
-reserved_occupant ended e = e
+reserved_occupant σ e = grind arith
 
 pub waiting_unended : (σ : Stage) → waiting_stage σ ≡ true → unended_stage σ ≡ true
-waiting_unended empty e = e
-waiting_unended queued e = e
-waiting_unended reserved e = e
-waiting_unended running e = refl
-waiting_unended ended e = e
+waiting_unended σ e = grind arith
 
 pub occupant_unended : (σ : Stage) → occupant_stage σ ≡ true → unended_stage σ ≡ true
-occupant_unended empty e = e
-occupant_unended queued e = refl
-occupant_unended reserved e = e
-occupant_unended running e = e
-occupant_unended ended e = e
+occupant_unended σ e = grind arith
 
 pub unended_held : (σ : Stage) → unended_stage σ ≡ true → held_stage σ ≡ true
-unended_held empty e = e
-unended_held queued e = e
-unended_held reserved e = e
-unended_held running e = e
-unended_held ended e = refl
+unended_held σ e = grind arith
 
 pub running_occupant : (σ : Stage) → running_stage σ ≡ true → occupant_stage σ ≡ true
-running_occupant empty e = e
-running_occupant queued e = e
-running_occupant reserved e = refl
-running_occupant running e = e
-running_occupant ended e = e
+running_occupant σ e = grind arith
 
 pub waiting_cases : (σ : Stage) → waiting_stage σ ≡ true → (queued_stage σ ≡ true) ⊎ (reserved_stage σ ≡ true)
-waiting_cases empty e = inl e
-waiting_cases queued e = inl e
-waiting_cases reserved e = inr e
-waiting_cases running e = inl e
-waiting_cases ended e = inl e
+waiting_cases σ e = grind arith
 
 pub occupant_cases : (σ : Stage) → occupant_stage σ ≡ true → (reserved_stage σ ≡ true) ⊎ (running_stage σ ≡ true)
-occupant_cases empty e = inl e
-occupant_cases queued e = inl e
-occupant_cases reserved e = inl e
-occupant_cases running e = inr e
-occupant_cases ended e = inl e
+occupant_cases σ e = grind arith
 
 pub reserved_unended : (σ : Stage) → reserved_stage σ ≡ true → unended_stage σ ≡ true
 reserved_unended σ e = waiting_unended σ (reserved_waiting σ e)
