@@ -41,6 +41,13 @@ def damaged(rng, text):
     return bytes(data)
 
 
+def later(rng):
+    """Lines that no runner reads, the last one now and then without byte 10."""
+    lines = [rng.choice(["x 1", "", "t 1", "i 5", "r 0", "k 1", "7", " t", "d x"]) + "\n" for _ in range(rng.randint(0, 6))]
+    text = "".join(lines)
+    return text[:-1] if rng.random() < 0.2 else text
+
+
 def script(rng):
     """Line one of a script, now and then a bad one."""
     rate = rng.choice([1, 3, 5, 10, 65535, 65536, 0, 4294967295, 4294967296, 99999999999])
@@ -56,7 +63,7 @@ def main():
         for n in range(count):
             p, s = plan(rng), script(rng)
             p = damaged(rng, p) if rng.random() < 0.3 else p.encode()
-            s = damaged(rng, s) if rng.random() < 0.2 else s.encode()
+            s = (damaged(rng, s) if rng.random() < 0.2 else s.encode()) + later(rng).encode()
             with open(os.path.join(folder, "plan.txt"), "wb") as f:
                 f.write(p)
             with open(os.path.join(folder, "script"), "wb") as f:
