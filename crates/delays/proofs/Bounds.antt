@@ -20,9 +20,6 @@ module _ (l : Layout) (rules : Rules l) where
   pub tasks_within : l.tasks ≤ 16
   tasks_within = grind (arith, rules.counts)
 
-  pub partitions_within : length l.partitions ≤ 8
-  partitions_within = grind (arith, rules.counts.0, rules.counts.1)
-
   pub accelerators_within : length l.accelerators ≤ 32
   accelerators_within = grind (arith, rules.counts.0, rules.counts.1)
 

@@ -10,7 +10,6 @@ use Rattle.delays.specs.declared.elsewhere.Numbered.{Numbered}
 use Rattle.delays.specs.Greatest.{greatest}
 use Rattle.delays.specs.Delays.{ticks_elsewhere, longest_elsewhere, accelerators_in}
 use Rattle.delays.specs.Places.{number_at, place_ticks}
-use Rattle.delays.proofs.Bounds.{partitions_within}
 use Rattle.delays.proofs.Greatests.{greatest_within, greatest_least}
 
 -- where some are counted, there is one
@@ -24,7 +23,7 @@ found p (x ∷ xs) h =
 
 module _ (l : Layout) (rules : Rules l) (rate k : ℕ) where
   abbrev places : List Numbered
-  places = map (number_at l) (range_with_len 0 8)
+  places = map (number_at l) (range_with_len 0 (length l.partitions))
 
   nothing : Numbered
   nothing = record { number = 0; size = 0 }
@@ -48,16 +47,16 @@ module _ (l : Layout) (rules : Rules l) (rate k : ℕ) where
   ticks_within i here =
       let b = get_or l.accelerators i idle in
       let j = b.partition in
-      let few : j < 8 = omega (arith, (rules.accelerators i here).0, partitions_within l rules) in
+      let there : j < length l.partitions = (rules.accelerators i here).0 in
       let some : 0 < accelerators_in l j = grind (arith, get_or-le-sum_by (λ b. cond (eqb b.partition j) 1 0) l.accelerators i idle here) in
-      let at_j = get_or-map-range_with_len (number_at l) 0 8 j j nothing few (omega arith) in
-      let least = greatest_least (place_ticks l rate k) nothing places j (omega (arith, length-map-range_with_len (number_at l) 0 8)) in
+      let at_j = get_or-map-range_with_len (number_at l) 0 (length l.partitions) j j nothing there (omega arith) in
+      let least = greatest_least (place_ticks l rate k) nothing places j (omega (arith, length-map-range_with_len (number_at l) 0 (length l.partitions))) in
       counts b _ some (omega (arith, ap (place_ticks l rate k) at_j, least))
 
   pub elsewhere_is : greatest (place_ticks l rate k) places ≡ longest_elsewhere l rate k
   elsewhere_is =
       le_antisymm
       (greatest_within (place_ticks l rate k) _ nothing places (λ j h.
-      let here : j < 8 = omega (arith, length-map-range_with_len (number_at l) 0 8) in
-      rw (get_or-map-range_with_len (number_at l) 0 8 j j nothing here (omega arith)) (place_within j)))
+      let here : j < length l.partitions = omega (arith, length-map-range_with_len (number_at l) 0 (length l.partitions)) in
+      rw (get_or-map-range_with_len (number_at l) 0 (length l.partitions) j j nothing here (omega arith)) (place_within j)))
       (greatest_within (ticks_elsewhere l rate k) _ idle l.accelerators ticks_within)

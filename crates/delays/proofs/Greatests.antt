@@ -4,12 +4,12 @@ use Rattle.std.specs.List.{fold}
 use Rattle.delays.specs.Greatest.{greatest}
 
 module _ {A : Type 0} (f : A → ℕ) where
-  folded : (a : ℕ) (xs : List A) → fold (λ b x. max b (f x)) a xs ≡ max a (greatest f xs)
+  folded : (a : ℕ) (xs : List A) → fold (λ b x. max (f x) b) a xs ≡ max a (greatest f xs)
   folded a [] = omega arith
-  folded a (x ∷ xs) = omega (arith, folded (max a (f x)) xs)
+  folded a (x ∷ xs) = omega (arith, folded (max (f x) a) xs)
 
   -- it is what comes of keeping the greater at each item
-  pub greatest_is : (xs : List A) → fold (λ b x. max b (f x)) 0 xs ≡ greatest f xs
+  pub greatest_is : (xs : List A) → fold (λ b x. max (f x) b) 0 xs ≡ greatest f xs
   greatest_is xs = omega (arith, folded 0 xs)
 
   -- it is within a limit if each measure is

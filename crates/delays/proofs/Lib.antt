@@ -1,5 +1,4 @@
 pub mod Greatests
 pub mod Bounds
 pub mod Elsewheres
-pub mod Sums
 pub mod Tables

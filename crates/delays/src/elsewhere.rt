@@ -32,8 +32,8 @@ fn accelerators_in(plan: &Plan, partition: u32) -> usize
 {
     plan.accelerators()
         .iter()
-        .filter(|accelerator| accelerator.partition == partition)
-        .count()
+        .map(|accelerator| usize::from(accelerator.partition == partition))
+        .sum()
 }
 
 /// A partition is measured by its write time, or by 0 where it is left out or has no accelerator.
@@ -66,8 +66,9 @@ impl Writing<'_> {
         ensures is { result ≡ longest_elsewhere (layout self.now.plan.now) self.now.rate partition }
         ensures small { result ≤ 1000000 }
     {
+        let numbered = with_numbers(self.plan);
         greatest(
-            &with_numbers(self.plan),
+            &numbered[..self.plan.partition_count()],
             &Elsewhere {
                 writing: *self,
                 partition,

@@ -17,7 +17,5 @@ pub fn greatest<C, T: Measure<C>>(items: &[T], context: &C) -> u64
 {
     items
         .iter()
-        .map(|item| item.measure(context))
-        .max()
-        .unwrap_or(0)
+        .fold(0, |best, item| item.measure(context).max(best))
 }

@@ -44,8 +44,10 @@ impl Writing<'_> {
         ensures small { result ≤ 144000000 }
     {
         (0..self.plan.tasks())
-            .filter(|task| *task != owner)
             .map(|task| {
+                if task == owner {
+                    return 0;
+                }
                 let weighing = Weighing {
                     writing: *self,
                     partition,

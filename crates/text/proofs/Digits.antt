@@ -1,5 +1,5 @@
 -- A number is the run of digits at the front of the bytes.
-use Rattle.std.proofs.Common.{Bor, Some, Option, drop, ◌≡◌, ℕ, zero, suc, ◌+◌, ◌-◌, ◌*◌, ◌^◌, ◌<◌, ◌≤◌, true, false, List, [], ◌∷◌, length, get_or, take, Ok, Err, sym, refl, ap, ◌∙◌, ⊎_elim, arith}
+use Rattle.std.proofs.Common.{Bor, Some, Option, drop, ◌≡◌, ℕ, zero, suc, ◌+◌, ◌-◌, ◌*◌, ◌^◌, ◌<◌, ◌≤◌, true, false, List, [], ◌∷◌, length, min, get_or, take, Ok, Err, sym, refl, ap, ◌∙◌, ⊎_elim, arith}
 use Rattle.std.specs.Char.{is_ascii_digit}
 use Rattle.std.specs.List.{prefix_len, take_while}
 use Rattle.std.specs.Slice.{IsGetRangeResult}
@@ -8,7 +8,7 @@ use Rattle.std.proofs.lemmas.Slice.{between_to_end}
 use Rattle.std.proofs.lemmas.Bool.{cond-true, cond-false, cases_Bool}
 use Rattle.std.proofs.lemmas.List.Folds.{length-prefix_len}
 use Rattle.std.proofs.lemmas.List.{get_or-take, length-take}
-use Rattle.std.proofs.lemmas.List.Sums.{prefix_len_passes, fold_more}
+use Rattle.std.proofs.lemmas.List.Sums.{prefix_len_passes, prefix_len-le-length, fold_more}
 use Rattle.std.proofs.lemmas.Grind.{pow_more}
 use Rattle.std.proofs.Math.Nat.{pow-le-pow_right}
 use Rattle.text.specs.declared.numbers.Digits.{Digits}
@@ -34,6 +34,28 @@ module _ (b : ℕ) (bs : List ℕ) where
 
   run_none : is_ascii_digit b ≡ false → run (b ∷ bs) ≡ 0
   run_none e = cond-false _ _ _ e
+
+-- of the first k bytes as many are digits, up to k
+run_take : (k : ℕ) (bs : List ℕ) → run (take k bs) ≡ min k (run bs)
+run_take zero bs = omega arith
+run_take (suc k) [] = omega arith
+run_take (suc k) (b ∷ bs) =
+    ⊎_elim
+    (λ yes'.
+    let front : run (take (suc k) (b ∷ bs)) ≡ suc (run (take k bs)) = run_more b (take k bs) yes' in
+    omega (arith, front, run_more b bs yes', run_take k bs))
+    (λ no'.
+    let front : run (take (suc k) (b ∷ bs)) ≡ 0 = run_none b (take k bs) no' in
+    omega (arith, front, run_none b bs no'))
+    (cases_Bool (is_ascii_digit b))
+
+-- n digits were counted, looking at one byte more than a number can have
+module _ (n m k : ℕ) (bs : List ℕ) (r : m ≡ min (length bs) (k + 1)) (e : n ≡ length (take_while is_ascii_digit (take m bs))) where
+  pub counted : n ≡ min (k + 1) (run bs)
+  counted = omega (arith, r, e ∙ run_length (take m bs) ∙ run_take m bs, prefix_len-le-length is_ascii_digit bs)
+
+  pub all_counted : n ≤ k → n ≡ length (take_while is_ascii_digit bs)
+  all_counted few = omega (arith, counted, run_length bs)
 
 digits_run : (bs : List ℕ) (v k n : ℕ) → run bs ≤ k → digits v k n bs ≡ Ok (written v (take (run bs) bs), n + run bs)
 digits_run [] v k n h = ap (λ m. Ok (v, m)) (let same : n ≡ n + 0 = omega arith in same)

@@ -27,7 +27,7 @@ module _ (t : List ℕ) (k : ℕ) where
   fields_none j n s = rw s
 
 -- the line at n, once its letter and the answer of its numbers are known
-line_on : (t : List ℕ) (k count n c : ℕ) (r : Result (List ℕ × ℕ) Malformed) → letter_at t n ≡ Ok c → fields_at t k count (n + 1) ≡ r → line_at t k count n ≡ and_then r (λ x. with_byte t 10 x.1 (Ok (c, x.0, x.1 + 1)))
+pub line_on : (t : List ℕ) (k count n c : ℕ) (r : Result (List ℕ × ℕ) Malformed) → letter_at t n ≡ Ok c → fields_at t k count (n + 1) ≡ r → line_at t k count n ≡ and_then r (λ x. with_byte t 10 x.1 (Ok (c, x.0, x.1 + 1)))
 line_on t k count n c r e f =
     ap (λ o. and_then o (λ c. and_then (fields_at t k count (n + 1)) (λ x. with_byte t 10 x.1 (Ok (c, x.0, x.1 + 1))))) e
     ∙ ap (λ o. and_then o (λ x. with_byte t 10 x.1 (Ok (c, x.0, x.1 + 1)))) f

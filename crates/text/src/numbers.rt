@@ -39,7 +39,9 @@ pub fn number(text: &[u8], at: usize, digits: Digits) -> Result<(u64, usize), Ma
     ensures inside { IfOk result (λ x. (at < x.1) × (x.1 ≤ length text.now)) }
 {
     let rest = text.get(at..).ok_or(Malformed)?;
-    let count = digits_in_front(rest);
+    // one digit too many is enough to refuse a number, however many follow
+    let room = rest.len().min(digits.most() + 1);
+    let count = digits_in_front(&rest[..room]);
     if count == 0 || count > digits.most() {
         return Err(Malformed);
     }
