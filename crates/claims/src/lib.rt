@@ -5,6 +5,7 @@
 
 ghost use Rattle.std.specs.Prelude.{◌≡◌, IfOk};
 ghost use Rattle.engine.specs.Answers.{told};
+ghost use Rattle.engine.specs.Overs.{StateOver};
 ghost use Rattle.model.specs.declared.calls.Answer.TheVariants.{Collected};
 ghost use Rattle.model.specs.declared.calls.Call.TheVariants.{Request, Collect};
 ghost use Rattle.model.specs.Laws.{Performed};
@@ -43,6 +44,7 @@ pub fn request_claim<P: Port>(
 ) -> Result<Claim, Refusal>
     ensures performed { Performed scheduler.old (Request task accelerator) (claimed result) scheduler.new }
     ensures names { IfOk result (Names task) }
+    ensures over { StateOver P.Port scheduler.old × StateOver P.Port scheduler.new }
     ensures handed_over { HandsOver scheduler.old accelerator scheduler.new result }
 {
     let ticket = scheduler.request(task, accelerator)?;
@@ -58,6 +60,7 @@ pub fn collect_claim<P: Port>(
     requires { Spent claim.old → ⊥ }
     ensures performed { Performed scheduler.old (Collect claim.old.task claim.old.ticket) (told Collected result) scheduler.new }
     ensures claim { claim.new ≡ after claim.old result }
+    ensures over { StateOver P.Port scheduler.old × StateOver P.Port scheduler.new }
     ensures given_back { GivesBack scheduler.old claim.old scheduler.new result }
 {
     let report = scheduler.collect(claim.task, claim.ticket)?;

@@ -5,7 +5,7 @@ use Rattle.firmware.proofs.readings.watch.Goals as goal
 pub loop-preserved : goal.loop-preserved
 loop-preserved g c =
     let z : c.args.asked.now.stay - c.loop.counter ≡ c.args.asked.now.stay - (c.loop.counter + 1) + 1 = omega arith in
-    watched_on c.requires.names.task_is c.loop.invariant c.report_done.ensures _ z (sym c.if-has_ended.ensures) c.tick.ensures
+    watched_on c.requires.names.task_is c.loop.invariant c.report_done.ensures _ z (sym c.if-has_ended.ensures) c.tick.ensures.performed
 
 pub returns-then-has_ended : goal.returns-then-has_ended
 returns-then-has_ended g c =

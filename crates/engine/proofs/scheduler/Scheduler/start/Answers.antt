@@ -5,8 +5,9 @@ use Rattle.engine.proofs.scheduler.Scheduler.start.Goals as goal
 
 pub returns : goal.returns
 returns g c =
-    let is = c.fresh.ensures in
+    let is = c.fresh-scheduler.ensures in
     record {
       is = is;
       opened = opened _ (record { port = g.P.Port.meaning c.args.port; rules = kept c.args.plan; sound = g.met.P.Port.sound c.args.port; low = omega arith; is = is });
+      over = c.over.ensures;
     }
