@@ -13,7 +13,9 @@ use ports::interruptible::EverySlot;
 use ports::memory::Memory;
 use ports::slot_map::SlotMap;
 use ports::uninterruptible::OneSlot;
+use readings::Reading;
 use rounds::serve;
+use std::io;
 use told::Told;
 
 /// Two partitions of one slot each, three tasks, four accelerators.
@@ -21,7 +23,7 @@ const PLAN: &[u8] =
     b"c 100 2 4 3\np 40 1 40\np 20 1 20\na 0 0 40 4\na 0 0 30 5\na 1 1 20 4\na 1 2 10 6\n";
 
 /// Two rounds of readings on a new port of a kind, on which a block may be flawed.
-fn demonstrate<M: Memory + Drop>(rt: &HostRuntime, flaw: Option<u32>) -> anyhow::Result<()> {
+fn served<M: Memory + Drop>(flaw: Option<u32>) -> anyhow::Result<[[Reading; 3]; 2]> {
     let mut plan = Plan::empty();
     read(PLAN, &mut plan)?;
     let mut map = SlotMap::identity();
@@ -30,7 +32,15 @@ fn demonstrate<M: Memory + Drop>(rt: &HostRuntime, flaw: Option<u32>) -> anyhow:
     if let Some(block) = flaw {
         port.set_flaw(5, block)?;
     }
-    for round in serve(plan, port, map) {
+    Ok(serve(plan, port, map))
+}
+
+fn demonstrate<M: Memory + Drop>(rt: &HostRuntime, flaw: Option<u32>) -> io::Result<()> {
+    let rounds = match served::<M>(flaw) {
+        Ok(rounds) => rounds,
+        Err(refused) => return println!(rt; "{refused}"),
+    };
+    for round in rounds {
         for (task, &reading) in round.iter().enumerate() {
             println!(rt; "task {task}: {}", Told(reading))?;
         }
@@ -39,14 +49,15 @@ fn demonstrate<M: Memory + Drop>(rt: &HostRuntime, flaw: Option<u32>) -> anyhow:
 }
 
 /// Both on a sound port and on one with a flawed block.
-fn show<M: Memory + Drop>(rt: &HostRuntime, name: &str) -> anyhow::Result<()> {
+fn show<M: Memory + Drop>(rt: &HostRuntime, name: &str) -> io::Result<()> {
     println!(rt; "{name}")?;
     demonstrate::<M>(rt, None)?;
     println!(rt; "with a flawed block")?;
     demonstrate::<M>(rt, Some(22))
 }
 
-fn main(rt: HostRuntime) -> anyhow::Result<()> {
+// What fails here is a print alone, and is told as the runner tells it.
+fn main(rt: HostRuntime) -> io::Result<()> {
     show::<EverySlot>(&rt, "a port that can be interrupted")?;
     show::<OneSlot>(&rt, "a port that cannot be interrupted")
 }
