@@ -6,8 +6,8 @@ use Rattle.std.proofs.lemmas.Bool.{cases_eq, cases_lt, cases_Bool, eq-eqb, ne_eq
 use Rattle.ports.specs.declared.progress.Progress.{Progress}
 use Rattle.ports.specs.declared.stored.Stored.{Stored}
 use Rattle.ports.specs.declared.stored.Begun.{Begun}
-use Rattle.ports.specs.Calls.{fresh_entry}
-use Rattle.ports.specs.Meaning.{Entry, nothing, half, Fine}
+use Rattle.ports.specs.Calls.{fresh_entry, new_port}
+use Rattle.ports.specs.Meaning.{Entry, Meaning, nothing, half, Fine}
 use Rattle.ports.specs.Memories.{each_slot, must_wait, put_after, Kept}
 use Rattle.ports.specs.MemoryLaws.{length_each, each_here, each_put, each_same}
 use Rattle.ports.specs.Progresses.{progress_entry}
@@ -26,6 +26,10 @@ no_progress : (b : Option Begun) (s k : ℕ) → waits b s ≡ false → k ≢ s
 no_progress None s k w d = refl
 no_progress (Some x) s k w d = rw (ne_eqb k x.slot.number (λ e. d (e ∙ eqb-true x.slot.number s (not-false _ w)))) refl
 
+-- the slot that is begun has its progress
+pub written_here : (x : Begun) (s : ℕ) → s ≡ x.slot.number → written_at (Some x) s ≡ x.written
+written_here x s e = rw (eq-eqb s x.slot.number e) refl
+
 pub none_else : (xs : List Stored) (b : Option Begun) (s : ℕ) → waits b s ≡ false → must_wait false (stored_entries xs b) s ≡ false
 none_else xs b s w =
     none_below (stored_entries xs b) s 32
@@ -34,7 +38,7 @@ none_else xs b s w =
 pub one_else : (xs : List Stored) (x : Begun) (s : ℕ) → Current xs (Some x) → (x.slot.number ≢ s) → must_wait false (stored_entries xs (Some x)) s ≡ true
 one_else xs x s cur d =
     let k = x.slot.number in
-    let n : written_at (Some x) k ≡ x.written = rw (eq-eqb k k refl) refl in
+    let n : written_at (Some x) k ≡ x.written = written_here x k refl in
     let l : k < 32 = omega (arith, x.slot.there) in
     let q = cur k l (omega (arith, n, x.some)) in
     let e = and_from (nat_lt 0 (written_at (Some x) k)) (nat_lt (written_at (Some x) k) (slice_index_or xs k vacant).size) (lt-ltb 0 (written_at (Some x) k) (omega (arith, n, x.some))) (lt-ltb (written_at (Some x) k) (slice_index_or xs k vacant).size q.1) in
@@ -104,6 +108,19 @@ pub new_stored : (p : Progress) (x : Stored) → IsStored p x → ((k : ℕ) →
 new_stored p x i e =
     each_same (λ k. stored_entry (slice_index_or (replicate 32 x) k vacant) 0 k) fresh_entry
     (λ k h. ap (λ (y : Stored). stored_entry y 0 k) (get_or-replicate 32 k x vacant (omega arith)) ∙ stored_is p x 0 k i (λ _. sym (ap (λ (y : Entry). y.written) (e k))) ∙ e k)
+
+-- 32 blank slots, of which none is begun, are those of a new port, at whatever rate
+pub new_vacant : (rate : ℕ) → ◌≡◌ {A = Meaning} (record { rate = rate; entries = stored_entries (replicate 32 vacant) None }) (new_port rate)
+unfolding each_slot new_port
+new_vacant rate = refl
+
+-- what is stored of a slot without progress is no matter to the one that is begun
+pub current_stays : (xs : List Stored) (b : Option Begun) (s : ℕ) (x : Stored) → written_at b s ≡ 0 → Current xs b → Current (slice_set xs s x) b
+current_stays xs b s x z cur k r w =
+    ⊎_elim
+    (λ (t : k ≡ s). let none : written_at b k ≡ 0 = ap (written_at b) t ∙ z in absurd (omega (arith, none, w)))
+    (λ (d : k ≢ s). subst (λ (y : Stored). (y.whole ≡ false) × (written_at b k < y.size)) (sym (get_or-set_other xs s k x vacant d)) (cur k r w))
+    (cases_eq k s)
 
 -- the progress of a slot that is not whole
 half_or_none : (p : Progress) (s : ℕ) → p.written ≢ p.size → cond (half (progress_entry p s)) p.written 0 ≡ p.written
